@@ -11,12 +11,5 @@ pub(crate) fn count_covered(plan: &Plan, marks: &Bits, set: u32) -> u32
     ensures { result ≡ length (filter (λ mark. mark) (take (slice_index_or plan.now.sizes set 0) (drop (sum (take set plan.now.sizes)) marks.now))) }
 {
     plan.assert_invariant();
-    let base = plan.base(set);
-    let mut count = 0;
-    for rank in 0..plan.size(set) {
-        if marks.has(base + rank) {
-            count += 1;
-        }
-    }
-    count
+    marks.count_marked(plan.base(set), plan.size(set))
 }

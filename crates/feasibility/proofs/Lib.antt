@@ -26,3 +26,4 @@ pub mod Earlier
 pub mod SameTrees
 pub mod KeptTrees
 pub mod TwoFree
+pub mod SafeValues

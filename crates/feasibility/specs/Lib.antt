@@ -1,6 +1,7 @@
 pub mod Answers
 pub mod Laws
 pub mod Path
+pub mod SafeValues
 pub mod Solving
 pub mod Tree
 pub mod Live

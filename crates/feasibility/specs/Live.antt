@@ -48,6 +48,10 @@ pub record NamesEarlier (m : ModelView) (k p : ℕ) (cells : List (Option ℕ)) 
 abbrev pub AreSeen : ModelView → ℕ → List (Option ℕ) → LiveView → Type 0
 AreSeen m p cells sets = (k : ℕ) → 0 < k → k ≤ length m.rules → NamesEarlier m k p cells → BreaksNoMark m k cells sets
 
+-- none of them is No
+abbrev pub IsUnbrokenBefore : ModelView → ℕ → List (Option ℕ) → Type 0
+IsUnbrokenBefore m p cells = (k : ℕ) → 0 < k → k ≤ length m.rules → NamesEarlier m k p cells → no_on m cells k ≡ false
+
 -- one of these constraints is No
 abbrev pub breaks_one : ModelView → List ℕ → List (Option ℕ) → Bool
 breaks_one m numbers cells = list_any (no_on m cells) numbers

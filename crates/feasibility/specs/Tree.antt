@@ -1,6 +1,6 @@
 -- What a search looks at in each node: each parameter's values, the parameters that a constraint names, and
 -- the constraints that a value leaves undecided. (This project's rule.)
-use Rattle.std.specs.Prelude.{◌≡◌, ℕ, ◌<◌, Bool, true, not, List, [], length, map, drop, replicate, Option, None, slice_index_or}
+use Rattle.std.specs.Prelude.{◌≡◌, ℕ, ◌<◌, Bool, true, not, List, [], length, map, drop, replicate, Option, None, slice_index_or, IfSome}
 use Rattle.std.specs.List.{filter, list_any, range_with_len}
 use Rattle.cov_model.specs.believed.Views.{BodyView}
 use Rattle.cov_model.specs.believed.Sound.{ModelView, param_at}
@@ -12,6 +12,7 @@ use Rattle.definitions.specs.believed.Demand.{is_among}
 use Rattle.definitions.specs.believed.Search.{body_params, constrained_params}
 use Rattle.compiled_rules.specs.Codes.{is_yes}
 use Rattle.feasibility.specs.declared.constrained.Constrained.{Constrained}
+use Rattle.feasibility.specs.SafeValues.{AreSafe}
 
 -- a model and each parameter's values in the order in which they are tried
 pub record TreeView : Type 0 where
@@ -84,8 +85,10 @@ pub record IsListed (lists : List (List ℕ)) (cells : List (Option ℕ)) : Type
   pub listed : (p : ℕ) → is_assigned cells p ≡ true → is_among (slice_index_or lists p []) (value_in cells p) ≡ true
 
 -- what a search has is of the model
-pub record IsTree (m : ModelView) (lists named : List (List ℕ)) (doubts : List (List (List ℕ))) (entries : List Constrained) : Type 0 where
+pub record IsTree (m : ModelView) (lists named : List (List ℕ)) (doubts : List (List (List ℕ))) (entries : List Constrained) (most : Option ℕ)
+    : Type 0 where
   pub values : ListsValues m lists
   pub members : named ≡ all_members m
   pub doubtful : doubts ≡ all_doubtful m
   pub constrained : entries ≡ all_constrained m
+  pub safe : IfSome most (AreSafe entries lists)

@@ -25,6 +25,7 @@ mod narrowing;
 mod question;
 mod refuter;
 mod refuting;
+mod safe_values;
 mod solver;
 mod tree;
 mod values;

@@ -212,7 +212,7 @@ impl<'a> SearchTree<'a> {
     }
 
     // Whether the constraint names a parameter below this one that has a value.
-    fn names_earlier(&self, rule: u32, p: ParamNo, cells: &Cells) -> bool
+    pub(crate) fn names_earlier(&self, rule: u32, p: ParamNo, cells: &Cells) -> bool
         requires first { 0 < rule }
         requires last { rule ≤ length self.now.model.rules }
         requires fits { FitsModel self.now.model cells.now }

@@ -1,4 +1,4 @@
-ghost use Rattle.std.specs.Prelude.{◌≡◌, ◌<◌, ◌≤◌, [], length, slice_index_or, IfOk};
+ghost use Rattle.std.specs.Prelude.{◌≡◌, ◌<◌, ◌≤◌, [], length, slice_index_or, IfOk, IfSome};
 ghost use Rattle.cov_model.specs.Fits.{FitsModel};
 ghost use Rattle.cov_model.specs.believed.Kleene.{body_truth};
 ghost use Rattle.cov_model.specs.Preference.{OrdersValues};
@@ -8,11 +8,13 @@ ghost use Rattle.definitions.specs.believed.Completion.{preferred_values};
 ghost use Rattle.definitions.specs.believed.Demand.{is_among};
 ghost use Rattle.definitions.specs.believed.Search.{constrained_params};
 ghost use Rattle.definitions.specs.SliceRows.{IsSliceOf};
-ghost use Rattle.feasibility.specs.Tree.{ListsValues, constrained_at, doubtful, members, undecided, undecided_by};
+ghost use Rattle.feasibility.specs.SafeValues.{AreSafe};
+ghost use Rattle.feasibility.specs.Tree.{ListsValues, all_constrained, constrained_at, doubtful, members, undecided, undecided_by};
 
 use crate::constrained::{Constrained, constrained_params};
 use crate::doubtful::all_doubtful;
 use crate::members::member_lists;
+use crate::safe_values::most_nodes;
 use crate::values::preferred_lists;
 use compiled_rules::CompiledRules;
 use cov_model::{Cells, ParamNo, Prefs, Slice, TestModel, Truth, ValueNo};
@@ -24,6 +26,8 @@ use value_text::NoMemory;
 /// What a plain search looks at in each node: the values of each parameter in the order in which
 /// they are tried, the parameters that each constraint names, with the values that alone leave it
 /// undecided, and the parameters that constraints name, with those that each value leaves undecided.
+/// Where each of these has a safe value, by which alone each constraint that names it holds, it keeps
+/// how many nodes a search visits at most.
 #[derive(Drop)]
 pub struct SearchTree<'a> {
     rules: CompiledRules<'a>,
@@ -31,6 +35,7 @@ pub struct SearchTree<'a> {
     members: PackedLists,
     doubtful: Vec<PackedLists>,
     constrained: Vec<Constrained>,
+    most_nodes: Option<u64>,
 }
 
 impl<'a> Model for SearchTree<'a> {
@@ -44,7 +49,7 @@ impl<'a> Model for SearchTree<'a> {
 
     ghost view = { λ a. record { model = a.rules; values = a.values } };
 
-    ghost invariant = { λ a. IsTree a.rules a.values a.members a.doubtful.items a.constrained.items };
+    ghost invariant = { λ a. IsTree a.rules a.values a.members a.doubtful.items a.constrained.items a.most_nodes };
 }
 
 impl<'a> SearchTree<'a> {
@@ -69,12 +74,14 @@ impl<'a> SearchTree<'a> {
         let rules = CompiledRules::new(alloc, model)?;
         let doubtful = all_doubtful(alloc, &rules, &members)?;
         let constrained = constrained_params(alloc, &rules)?;
+        let most = most_nodes(constrained.as_slice(), &values);
         Ok(SearchTree {
             rules,
             values,
             members,
             doubtful,
             constrained,
+            most_nodes: most,
         })
     }
 
@@ -153,6 +160,13 @@ impl<'a> SearchTree<'a> {
         ensures { result.now ≡ undecided_by self.now.model (constrained_at self.now.model i) }
     {
         &self.constrained[i]
+    }
+
+    // The most nodes that a search visits, where each parameter that constraints name has a safe value.
+    pub(crate) fn most_nodes(&self) -> Option<u64>
+        ensures { IfSome result (AreSafe (all_constrained self.now.model) self.now.values) }
+    {
+        self.most_nodes
     }
 
     /// Whether a constraint names a parameter.

@@ -16,6 +16,7 @@ use crate::answer_table::AnswerTable;
 use crate::answered::Answered;
 use crate::tree::SearchTree;
 use cov_model::{Cells, ParamNo, ValueNo};
+use definitions::Effort;
 use live_sets::LiveSets;
 
 // Visits so many nodes, and says whether the last of them succeeds; Spent where the budget that is left has
@@ -295,8 +296,8 @@ impl<'a> SearchTree<'a> {
         self.search_anew(room, sets, &mut left)
     }
 
-    // Whether the cells have a completion, given whether the node without values fails. A question that is the
-    // same as one in the table isn't searched again, and what is searched is kept there.
+    // Whether the cells have a completion, given whether the node without values fails. What isn't told at once is
+    // searched and kept in the table, unless it is the same question as one there.
     pub(crate) fn ask_and_keep(
         &self,
         fails: bool,
@@ -321,6 +322,9 @@ impl<'a> SearchTree<'a> {
         let mut left = budget;
         if fails {
             return visit_nodes(false, 1, &mut left);
+        }
+        if let Some(found) = self.found_at_once(cells, Effort::Within(budget)) {
+            return if found { Answer::Yes } else { Answer::No };
         }
         let place = self.place_of(cells, table.len());
         let answered = table.at(place);

@@ -18,6 +18,7 @@ use crate::conflicts::Conflicts;
 use crate::finding::find_row;
 use crate::witness::Witness;
 use cov_model::{Cells, ParamNo, Prefs, Slice, TestModel, Tuple};
+use definitions::Effort;
 use feasibility::{Refuter, SearchTree};
 use live_sets::LiveSets;
 use refutation::{Omissions, TreeBuf, TreeToken};
@@ -130,6 +131,12 @@ impl<'a> FullSearch<'a> {
         ensures answer { result ≡ is_extendable self.old.model self.old.slice cells.now }
         ensures same { self.new ≡ self.old }
     {
+        self.tree.assert_invariant();
+        if !self.fails {
+            if let Some(found) = self.tree.found_at_once(cells, Effort::Full) {
+                return found;
+            }
+        }
         find_row(
             &self.tree,
             self.fails,

@@ -10,3 +10,4 @@ pub mod Asking
 pub mod Omissions
 pub mod Inputs
 pub mod SeedQuestions
+pub mod TopScores

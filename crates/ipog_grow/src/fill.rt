@@ -8,9 +8,10 @@ ghost use Rattle.ipog_grow.specs.Growing.{IsClosedBy, IsInPlay, open_tuples};
 
 use crate::asker::Asker;
 use crate::stop::Stop;
+use crate::value_order::ValueOrder;
 use crate::values::try_values;
 use crate::workers::Workers;
-use cov_model::{Cells, ParamNo, Rows, ValueNo};
+use cov_model::{Cells, ParamNo, Rows};
 use std::thread::Threads;
 use uncovered_table::Uncovered;
 use worker_gate::Gate;
@@ -23,7 +24,7 @@ pub(crate) fn fill_cell<R: Threads + Sync, G: Gate + Sync>(
     workers: &Workers<'_, R, G>,
     table: &mut Uncovered,
     asker: &mut Asker,
-    order: &[ValueNo],
+    order: &ValueOrder<'_>,
     column: ParamNo,
     scores: &mut [u32],
     rows: &mut Rows,

@@ -8,8 +8,9 @@ ghost use Rattle.ipog_grow.specs.Growing.{IsInPlay, Keeps, open_tuples};
 use crate::asker::Asker;
 use crate::fill::fill_cell;
 use crate::stop::Stop;
+use crate::value_order::ValueOrder;
 use crate::workers::Workers;
-use cov_model::{Cells, ParamNo, Rows, ValueNo};
+use cov_model::{Cells, ParamNo, Rows};
 use std::thread::Threads;
 use uncovered_table::Uncovered;
 use worker_gate::Gate;
@@ -35,7 +36,7 @@ pub(crate) fn grow_horizontally<R: Threads + Sync, G: Gate + Sync>(
     workers: &Workers<'_, R, G>,
     table: &mut Uncovered,
     asker: &mut Asker,
-    order: &[ValueNo],
+    order: &ValueOrder<'_>,
     column: ParamNo,
     scores: &mut [u32],
     rows: &mut Rows,

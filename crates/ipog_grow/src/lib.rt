@@ -31,8 +31,10 @@ mod slice_suite;
 mod slices;
 mod stop;
 mod suite;
+mod top_score;
 mod unfilled;
 mod unions;
+mod value_order;
 mod values;
 mod workers;
 

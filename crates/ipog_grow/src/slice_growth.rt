@@ -25,6 +25,7 @@ use crate::order::column_order;
 use crate::place_tuple::{clear_values, put_tuple, take_tuple};
 use crate::stop::Stop;
 use crate::unfilled::UnfilledRows;
+use crate::value_order::ValueOrder;
 use crate::values::no_scores;
 use crate::workers::Workers;
 use cov_model::{Cells, ParamNo, Prefs, Rows, Slice, TestModel, Tuple};
@@ -270,21 +271,22 @@ impl<'a> SliceGrowth<'a> {
         ensures room { length self.new.room ≡ length self.old.room }
     {
         self.asker.assert_invariant();
-        let order = prefs.of(column);
+        let values = prefs.of(column);
+        let order = ValueOrder::new(values);
         self.table.prepare(alloc, column)?;
-        let mut scores = no_scores(alloc, order.len())?;
+        let mut scores = no_scores(alloc, values.len())?;
         close_contained(&mut self.table, &self.rows, column, &mut self.room);
         grow_horizontally(
             workers,
             &mut self.table,
             &mut self.asker,
-            order,
+            &order,
             column,
             &mut scores,
             &mut self.rows,
             &mut self.room,
         )?;
-        self.grow_vertically(alloc, plan, column, order.len(), columns)
+        self.grow_vertically(alloc, plan, column, values.len(), columns)
     }
 
     // The columns in order. The model, the slice and the preferences are those of the slice's questions.

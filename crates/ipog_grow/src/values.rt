@@ -1,14 +1,13 @@
-ghost use Rattle.std.specs.Prelude.{◌≡◌, ◌<◌, ◌≤◌, ℕ, true, false, Some, None, All, Contains, IsPermutation, [], length, map, slice_index, slice_index_or, slice_set, IfOk, IfSome, OnOk};
-ghost use Rattle.std.specs.List.{range_with_len};
+ghost use Rattle.std.specs.Prelude.{◌≡◌, ◌<◌, ◌≤◌, ℕ, true, false, Some, None, All, [], length, slice_index, slice_index_or, slice_set, IfOk, IfSome, OnOk};
 ghost use Rattle.cov_model.specs.believed.Rows.{contains, is_assigned};
 ghost use Rattle.cov_model.specs.believed.Slices.{slice_values};
 ghost use Rattle.cov_model.specs.believed.Sound.{param_at};
 ghost use Rattle.definitions.specs.believed.Demand.{is_among};
 ghost use Rattle.ipog_grow.specs.Asking.{Grows, Told, first_spent, tried};
-ghost use Rattle.ipog_grow.specs.Growing.{best};
 
 use crate::asker::Asker;
 use crate::stop::Stop;
+use crate::value_order::ValueOrder;
 use cov_model::{Cells, ParamNo, ValueNo};
 use std::alloc::Global;
 use value_text::NoMemory;
@@ -21,43 +20,11 @@ pub(crate) fn no_scores(alloc: Global, count: usize) -> Result<Vec<u32>, NoMemor
     Ok(scores)
 }
 
-// The greatest score, or 0.
-fn greatest(scores: &[u32]) -> u32
-    ensures most { All (λ score. score ≤ result) scores.now }
-    ensures own { 0 < result → Contains scores.now result }
-{
-    let mut most: u32 = 0;
-    for score in scores {
-        most = most.max(*score);
-    }
-    most
-}
-
-// The first value of the greatest score, if one has a score above 0. Scores are compared in their own order first,
-// many at once; the first value is looked for only then. The order has a place for each score.
-fn best_value(order: &[ValueNo], scores: &[u32]) -> Option<ValueNo>
-    requires order { IsPermutation (range_with_len 0 (length scores.now)) order.now }
-    requires exist { All (λ v. v < length scores.now) order.now }
-    ensures best { result ≡ best (λ v. slice_index scores.now v) order.now }
-    ensures within { IfSome result (λ v. v < length scores.now) }
-{
-    let most = greatest(scores);
-    if most == 0 {
-        return None;
-    }
-    for v in order {
-        if scores[*v as usize] == most {
-            return Some(*v);
-        }
-    }
-    None
-}
-
 // Gives a row, which has no value in the column, the first value by falling score, of those with a
 // score above 0, that leaves it extendable; this value, if there is one. The scores are lost.
 pub(crate) fn try_values(
     asker: &mut Asker,
-    order: &[ValueNo],
+    order: &ValueOrder<'_>,
     scores: &mut [u32],
     column: ParamNo,
     row: &mut Cells,
@@ -81,7 +48,7 @@ pub(crate) fn try_values(
     ensures size { length row.new ≡ length row.old }
 {
     asker.assert_invariant();
-    while let Some(v) = best_value(order, scores) {
+    while let Some(v) = order.best(scores) {
         row.set_cell(column, v);
         if asker.ask(row)? {
             return Ok(Some(v));

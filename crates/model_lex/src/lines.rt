@@ -3,6 +3,8 @@ ghost use Rattle.std.specs.Prelude.{◌≡◌, ◌<◌, ◌∷◌, length};
 ghost use Rattle.std.specs.List.{position, slice_split};
 ghost use Rattle.model_lex.specs.believed.Lines.{ended_lines, file_lines, is_line_feed, without_mark, without_return};
 
+use memchr::memchr;
+
 /// The bytes of a file without a byte-order mark at the start.
 pub fn without_mark(bytes: &[u8]) -> &[u8]
     ensures { result.now ≡ without_mark bytes.now }
@@ -27,7 +29,7 @@ fn without_return(line: &[u8]) -> &[u8]
 fn line_end(bytes: &[u8]) -> Option<usize>
     ensures { result ≡ position is_line_feed bytes.now }
 {
-    bytes.iter().position(|byte| *byte == b'\n')
+    memchr(b'\n', bytes)
 }
 
 /// What stands before the first line feed, or all bytes where there is none, and what stands behind it.

@@ -8,13 +8,10 @@ use Rattle.std.specs.Int.{IsInRange}
 use Rattle.std.specs.Str.Parse.{digits_value}
 use Rattle.std.proofs.lemmas.Bool.{cases_Bool, false≢true, false_from_ne_true, le-ltb, ltb-true, ltb-false}
 use Rattle.std.proofs.lemmas.List.Splits.{slice_split_first}
-use Rattle.std.proofs.lemmas.List.Sums.{position_or_len_is}
 use Rattle.std.proofs.lemmas.Int.Digits.{digits_value_more}
 use Rattle.std.proofs.lemmas.Str.{digit_value_digit}
 use Rattle.std.proofs.lemmas.Str.Parse.{digit_at, digits_value-take-le}
-use Rattle.memchr.specs.Find.{IsFirstByte, is_byte}
 use Rattle.value_text.proofs.DigitLemmas.{all_digits}
-use Rattle.value_text.proofs.ListLemmas.{position_is}
 use Rattle.definitions.specs.believed.ProofText.{number_where}
 use Rattle.refutation.specs.Reading.{pieces, is_numeral}
 
@@ -47,18 +44,6 @@ pieces_none mark text none = at (nat_lt (position_or_len (λ b. b == mark) text)
         → cond within (Some (position_or_len (λ b. b == mark) text)) None ≡ None → pieces mark text ≡ text ∷ []
     at true e is_none = cc
     at false e is_none = one_piece mark text (ltb-false (position_or_len (λ b. b == mark) text) (length text) e)
-
--- a search for a byte tells the first mark
-pub first_byte : (mark : ℕ) (text : List ℕ) (found : Option ℕ) → IsFirstByte (is_byte mark) text found → found ≡ position (λ b. b == mark) text
-first_byte mark text (Some i) is =
-    sym (position_is (λ b. b == mark) text i 0 is.0.high (λ k below. false_from_ne_true (get_or text k 0 == mark) (is.0.before k (omega arith) below)) is.1)
-first_byte mark text None nowhere =
-    let all : position_or_len (λ b. b == mark) text ≡ length text =
-    position_or_len_is (λ b. b == mark) text (length text) 0 (omega arith)
-    (λ k below. false_from_ne_true (get_or text k 0 == mark) (nowhere k (omega arith) below)) (λ within. absurd (omega arith)) in
-    let past : nat_lt (position_or_len (λ b. b == mark) text) (length text) ≡ false =
-    le-ltb (position_or_len (λ b. b == mark) text) (length text) (omega arith) in
-    ap (λ b. cond b (Some (position_or_len (λ b. b == mark) text)) None) (sym past)
 
 -- ---- numbers
 

@@ -2,6 +2,7 @@ pub mod Sending
 pub mod Turning
 pub mod Lines
 pub mod LookingUp
+pub mod Words
 pub mod LineSteps
 pub mod RowSteps
 pub mod ColumnSteps

@@ -1,15 +1,18 @@
 -- How names are looked up by their texts.
 use Rattle.std.proofs.Common.{◌≡◌, ℕ, suc, ◌+◌, ◌<◌, Bool, true, false, cond, ◌||◌, List, [], ◌∷◌, ◌++◌, map, length, get_or, take, All}
-use Rattle.std.proofs.Common.{Option, Some, None, is_some, position, refl, sym, ◌∙◌, ap, ap₂, subst, arith, add-zero}
+use Rattle.std.proofs.Common.{Option, Some, None, Vec, is_some, position, refl, sym, ◌∙◌, ap, ap₂, subst, arith, add-zero}
 use Rattle.std.proofs.lemmas.Bool.{cond-false, false≢true}
 use Rattle.std.proofs.lemmas.Iterator.Adapters.{position_from-zero}
-use Rattle.std.proofs.lemmas.List.{length-take-le, take_more}
+use Rattle.std.proofs.lemmas.List.{length-take-le, map-append, take_more}
 use Rattle.std.proofs.lemmas.List.Elements.{All-head, All-tail}
 use Rattle.std.proofs.lemmas.Slice.Eq.{bytes_eq-Decides}
+use Rattle.std.specs.declared.alloc.Global.{Global}
 use Rattle.std.specs.List.{position_from}
 use Rattle.std.specs.Map.{lookup}
 use Rattle.std.specs.Option.{option_or}
 use Rattle.std.specs.Str.{bytes_eq}
+use Rattle.indexmap.specs.IndexMap.{IndexMap, get, insert_entry}
+use Rattle.indexmap.proofs.CallerLemmas.{insert_entry-new}
 use Rattle.definitions.proofs.Members.{same_answer}
 use Rattle.row_text.specs.Lookups.{number_of}
 
@@ -66,7 +69,7 @@ pub looked_up : {K : Type 0} (text : K → List ℕ) (query : List ℕ) (entries
 looked_up text query [] = refl
 looked_up text query (e ∷ entries) = ap₂ (λ b rest. cond b (Some e.1) rest) (bytes_eq_comm query (text e.0)) (looked_up text query entries)
 
-number_of-append : (pairs more : List (List ℕ × ℕ)) (key : List ℕ) → number_of (pairs ++ more) key ≡ option_or (number_of pairs key) (number_of more key)
+pub number_of-append : (pairs more : List (List ℕ × ℕ)) (key : List ℕ) → number_of (pairs ++ more) key ≡ option_or (number_of pairs key) (number_of more key)
 number_of-append [] more key = refl
 number_of-append (p ∷ pairs) more key = at (bytes_eq p.0 key) (number_of-append pairs more key)
   where
@@ -79,6 +82,18 @@ number_of-append (p ∷ pairs) more key = at (bytes_eq p.0 key) (number_of-appen
 pub added : (pairs more : List (List ℕ × ℕ)) (text : List ℕ) (n : ℕ) → more ≡ pairs ++ (text, n) ∷ []
     → (key : List ℕ) → number_of more key ≡ option_or (number_of pairs key) (cond (bytes_eq text key) (Some n) None)
 added pairs more text n is key = ap (λ ps. number_of ps key) is ∙ number_of-append pairs ((text, n) ∷ []) key
+
+-- an entry of a map as a text with its number
+abbrev pub seen : Vec ℕ Global × ℕ → List ℕ × ℕ
+seen entry = (entry.0.items, entry.1)
+
+-- the texts of a map that has a new one
+pub texts_more : {S : Type 0} (numbers : IndexMap (Vec ℕ Global) ℕ S) (more : List (Vec ℕ Global × ℕ)) (text : Vec ℕ Global) (n : ℕ)
+    → more ≡ insert_entry (λ (a b : Vec ℕ Global). bytes_eq a.items b.items) numbers.entries text n
+    → get (λ (a b : Vec ℕ Global). bytes_eq a.items b.items) numbers text ≡ None → map seen more ≡ map seen numbers.entries ++ (text.items, n) ∷ []
+texts_more numbers more text n is absent =
+    ap (map seen) (is ∙ insert_entry-new (λ (a b : Vec ℕ Global). bytes_eq a.items b.items) numbers text n absent)
+    ∙ map-append seen numbers.entries ((text, n) ∷ [])
 
 -- and one that has a number
 has_first : {X : Type 0} (o other : Option X) → is_some o ≡ true → o ≡ option_or o other

@@ -1,10 +1,12 @@
 -- How the names of a model are gathered parameter by parameter.
-use Rattle.std.proofs.Common.{◌≡◌, ℕ, ◌+◌, ◌<◌, List, [], ◌∷◌, ◌++◌, length, get_or, position, inl, inr, sym, ◌∙◌, ap, arith}
+use Rattle.std.proofs.Common.{◌≡◌, ℕ, ◌+◌, ◌<◌, Bool, List, [], ◌∷◌, ◌++◌, length, get_or, position, inl, inr, sym, ◌∙◌, ap, ap₂, arith}
 use Rattle.std.proofs.lemmas.Bool.{cases_eq}
 use Rattle.std.proofs.lemmas.List.{get_or_append_left, get_or_default, get_or_push, length_push}
 use Rattle.cov_model.specs.declared.parameter.Param.{Param}
 use Rattle.cov_model.specs.believed.Sound.{ModelView, no_param}
-use Rattle.row_text.specs.Lookups.{is_value_named, number_of}
+use Rattle.value_text.specs.believed.Texts.{folded}
+use Rattle.definitions.specs.believed.RowFile.{named_value}
+use Rattle.row_text.specs.Lookups.{AreNamesOf, is_value_named, number_of}
 
 -- the names of the values of the first parameters
 pub record ValuesSoFar (m : ModelView) (params : List Param) (k : ℕ) (texts : List (List (List ℕ × ℕ))) : Type 0 where
@@ -39,3 +41,11 @@ values_end m params k texts so_far same all = record {
   each = λ p key within.
       so_far.each p key (omega (arith, within, all, ap length same)) ∙ ap (λ list. position (is_value_named m key) (get_or list p no_param).values) same;
 }
+
+-- a text under the case rule has the number of the value that it names
+pub value_named : (m view : ModelView) (params : List (List ℕ × ℕ)) (values : List (List (List ℕ × ℕ))) (p : ℕ) (cell : List ℕ) (texts : List (List ℕ × ℕ)) (fold : Bool)
+    → AreNamesOf m params values → m ≡ view → p < length view.params → texts ≡ get_or values p texts → fold ≡ m.fold → number_of texts (folded fold cell) ≡ named_value view p cell
+value_named m view params values p cell texts fold names same within is folds =
+    let inside : p < length m.params = omega (arith, within, ap (λ v. length v.params) same) in
+    let own : texts ≡ get_or values p [] = is ∙ get_or_default values p texts [] (omega (arith, inside, names.as_many)) in
+    ap₂ (λ pairs f. number_of pairs (folded f cell)) own folds ∙ names.value_names p (folded m.fold cell) inside ∙ ap (λ v. named_value v p cell) same

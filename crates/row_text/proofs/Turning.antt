@@ -1,6 +1,6 @@
 -- The numbers of the names that are shown next, as they are made, shown and set to 0.
 use Rattle.std.proofs.Common.{◌≡◌, ◌≢◌, ℕ, ◌+◌, ◌%◌, ◌<◌, ◌⊎◌, inl, inr, Bool, true, false, ◌&&◌, ◌==◌, List, [], ◌∷◌, ◌++◌, Option}
-use Rattle.std.proofs.Common.{map, length, get_or, set, take, refl, sym, ap, subst, ◌∙◌, arith, eq-eqb, ne_eqb}
+use Rattle.std.proofs.Common.{map, length, get_or, set, take, refl, sym, ap, subst, ◌∙◌, arith, eq-eqb, ne_eqb, mod-eq_of_lt}
 use Rattle.std.specs.Prelude.{replicate}
 use Rattle.std.proofs.lemmas.List.{take_more, get_or-map, length-map, map-append, map-set, get_or-set_same, get_or-set_other, length-set, length-replicate, get_or-replicate, get_or_default}
 use Rattle.std.proofs.lemmas.List.Sums.{count_by_more_yes, count_by_more_no}
@@ -14,6 +14,10 @@ use Rattle.cov_model.specs.believed.Rows.{is_assigned, value_in}
 use Rattle.cov_model.specs.believed.Meaning.{value_at}
 use Rattle.definitions.specs.believed.Report.{times_given, printed, printed_turn, cell_text}
 use Rattle.row_text.specs.Turns.{IsFor, AreTurns, first_turns, cleared, turns_at, turn_at, after_turn}
+
+-- a number below the count stays
+pub below_count : (n count : ℕ) → n < count → n ≡ n % count
+below_count n count below = sym (mod-eq_of_lt below)
 
 -- one more element of a list made element by element
 pub map_made_more : {X Y Z : Type 0} (f : X → Z) (g : Y → Z) (xs : List X) (ys : List Y) (i : ℕ) (d : X) (y : Y) → i < length xs

@@ -29,6 +29,7 @@ mod reading;
 mod report;
 mod row_file;
 mod rows_fault;
+mod short_words;
 mod text_numbers;
 mod turns;
 

@@ -180,7 +180,12 @@ impl<'a> ModelNames<'a> {
         ensures named { IfOk result (λ value. value ≡ named_value self.old p cell.now) }
         ensures same { self.new ≡ self.old }
     {
-        set_key(&mut self.key, cell, self.model.fold())?;
-        Ok(self.values[p as usize].number(self.key.as_slice()))
+        let texts = &self.values[p as usize];
+        let fold = self.model.fold();
+        if let Some(value) = texts.short_number(cell, fold) {
+            return Ok(Some(value));
+        }
+        set_key(&mut self.key, cell, fold)?;
+        Ok(texts.number(self.key.as_slice()))
     }
 }

@@ -1,4 +1,4 @@
-ghost use Rattle.std.specs.Prelude.{◌≡◌, ◌<◌, ◌≤◌, length, replicate, IfOk};
+ghost use Rattle.std.specs.Prelude.{◌≡◌, ◌+◌, ◌%◌, ◌<◌, ◌≤◌, ◌^◌, length, replicate, IfOk};
 ghost use Rattle.row_text.specs.Turns.{first_turns, cleared, turns_at, turn_at, after_turn};
 
 use cov_model::TestModel;
@@ -35,6 +35,19 @@ fn clear_all(next: &mut Vec<u8>)
     for number in next.iter_mut() {
         *number = 0;
     }
+}
+
+/// The number of the name behind one of so many names: behind the last one the first. A division takes longer than
+/// the rest of a cell, so there is one at the last name alone.
+#[tactic(auto, using(crate::proofs::Turning::below_count))]
+fn name_behind(shown: usize, count: usize) -> usize
+    requires some { 0 < count }
+    requires small { shown < 2 ^ 8 }
+    ensures value { result ≡ (shown + 1) % count }
+    ensures within { result < count }
+{
+    let next = shown + 1;
+    if next < count { next } else { next % count }
 }
 
 impl NextNames {
@@ -75,7 +88,7 @@ impl NextNames {
     {
         let next = &mut self.places[place][value];
         let shown = *next as usize;
-        *next = ((shown + 1) % count) as u8;
+        *next = name_behind(shown, count) as u8;
         shown
     }
 }

@@ -1,12 +1,12 @@
 -- Tests that are marked together, and the places that their values make.
 use Rattle.std.proofs.Common.{inl, inr, ◌≡◌, ℕ, ◌+◌, ◌*◌, ◌^◌, ◌<◌, ◌≤◌, Bool, true, false, ◌&&◌, ◌||◌, not, cond}
-use Rattle.std.proofs.Common.{List, [], ◌∷◌, ◌++◌, map, replicate, length, get_or, set, Vec, Global, All, Option, Some, None, ◌∙◌, ◌≢◌, refl, sym, ap, subst, arith}
+use Rattle.std.proofs.Common.{append_assoc, take, List, [], ◌∷◌, ◌++◌, map, replicate, length, get_or, set, Vec, Global, All, Option, Some, None, ◌∙◌, ◌≢◌, refl, sym, ap, subst, arith}
 use Rattle.std.specs.Prelude.{slice_get}
 use Rattle.std.specs.List.{filter, list_any}
 use Rattle.std.specs.Option.{option_map_or}
 use Rattle.std.proofs.Math.Bool.{or-false}
 use Rattle.std.proofs.lemmas.Bool.{and_parts, cases_eq, false≢true}
-use Rattle.std.proofs.lemmas.List.{get_or-map, get_or-replicate, get_or-set_other, get_or-set_same, get_or_default, length-map, length-replicate, length-set, map-append, map-set, same_lists}
+use Rattle.std.proofs.lemmas.List.{get_or-map, get_or-replicate, get_or-set_other, get_or-set_same, get_or_default, length-map, length-replicate, length-set, map-append, map-set, same_lists, take_more}
 use Rattle.std.proofs.lemmas.List.Elements.{All-get_or, All-nil, All-push}
 use Rattle.value_text.proofs.ListLemmas.{or_or}
 use Rattle.cov_model.specs.declared.slice.Slice.{Slice}
@@ -20,7 +20,7 @@ use Rattle.definitions.specs.believed.Figures.{is_served, tests_of}
 use Rattle.tuple_index.specs.Places.{values_in, ways}
 use Rattle.tuple_index.specs.Plan.{plan_of}
 use Rattle.shared_marks.specs.declared.digits.Digit.{Digit}
-use Rattle.shared_marks.specs.TestColumns.{ColumnsView, AreColumns, digit_in, is_plain, is_positive, place_in}
+use Rattle.shared_marks.specs.TestColumns.{ColumnsView, AreColumns, ArePlain, digit_in, is_plain, is_positive, place_in}
 use Rattle.shared_marks.specs.Digits.{AreDigits, IsPlacing, own_slice}
 use Rattle.shared_marks.specs.Served.{is_served_at}
 use Rattle.shared_marks.proofs.DigitLemmas.{IsJoined, joined, placing_end, positives_listed}
@@ -44,72 +44,58 @@ plain_test m row is =
       valid = (and_parts (is_complete row) (is_valid m row) parts.1).1;
     }
 
-pub plain_at : (m : ModelView) (columns : ColumnsView) (at : ℕ) → AreColumns m columns → at < length columns.tests → PlainTest m (get_or columns.tests at [])
-plain_at m columns at is within = plain_test m (get_or columns.tests at []) (All-get_or (λ row. is_plain m row ≡ true) columns.tests at [] within is.plain)
+pub plain_at : (m : ModelView) (tests : List (List (Option ℕ))) (at : ℕ) → ArePlain m tests → at < length tests → PlainTest m (get_or tests at [])
+plain_at m tests at plain within = plain_test m (get_or tests at []) (All-get_or (λ row. is_plain m row ≡ true) tests at [] within plain)
 
 pub plain_slice : (m : ModelView) (row : List (Option ℕ)) (p : ℕ) → PlainTest m row → p < length m.params → own_slice m row p ≡ positive_values m p
 plain_slice m row p is within = ap (λ s. values_in (plan_of m) s p) is.positive ∙ positives_listed m p within
 
--- no test yet, and one more
-pub no_tests : (m : ModelView) (columns : ColumnsView) → columns.tests ≡ [] → length columns.places ≡ length m.params → All (λ column. column ≡ []) columns.places
-    → AreColumns m columns
-no_tests m columns none wide empty = record {
-  plain = subst (All (λ row. is_plain m row ≡ true)) (sym none) (All-nil (λ row. is_plain m row ≡ true));
+-- no column is filled yet, and one more
+pub none_filled : (m : ModelView) (columns : ColumnsView) → ArePlain m columns.tests → length columns.places ≡ length m.params
+    → All (λ column. column ≡ []) columns.places → AreColumns m columns
+none_filled m columns plain wide empty = record {
+  plain = plain;
   wide = wide;
-  each = λ p within.
-      All-get_or (λ column. column ≡ []) columns.places p [] (omega (arith, within, wide)) empty ∙ ap (map (digit_in m p)) (sym none);
+  each = λ p within some. absurd (some (All-get_or (λ column. column ≡ []) columns.places p [] (omega (arith, within, wide)) empty));
 }
 
-pub columns_more : (m : ModelView) (before after : ColumnsView) (row : List (Option ℕ)) (digits : List Digit) → AreColumns m before → is_plain m row ≡ true
-    → AreDigits m row digits → after.tests ≡ before.tests ++ row ∷ [] → length after.places ≡ length before.places
-    → ((p : ℕ) (other : Digit) → p < length before.places → get_or after.places p [] ≡ get_or before.places p [] ++ (get_or digits p other).place ∷ [])
-    → AreColumns m after
-columns_more m before after row digits is plain are tests long each = record {
-  plain = subst (All (λ r. is_plain m r ≡ true)) (sym tests) (All-push (λ r. is_plain m r ≡ true) before.tests row is.plain plain);
-  wide = long ∙ is.wide;
-  each = λ p within.
-      let other : Digit = record { place = 0; radix = 0 } in
-      each p other (omega (arith, within, is.wide)) ∙ ap (λ column. column ++ (get_or digits p other).place ∷ []) (is.each p within)
-      ∙ ap (λ d. map (digit_in m p) before.tests ++ d ∷ []) (are.0.each p other within).place
-      ∙ sym (map-append (digit_in m p) before.tests (row ∷ [])) ∙ ap (map (digit_in m p)) (sym tests);
-}
+pub one_filled : (m : ModelView) (tests : List (List (Option ℕ))) (columns : List (Vec ℕ Global)) (p : ℕ) (column : Vec ℕ Global)
+    → AreColumns m (record { tests = tests; places = map (λ (c : Vec ℕ Global). c.items) columns }) → p < length m.params → column.items ≡ map (digit_in m p) tests
+    → AreColumns m (record { tests = tests; places = map (λ (c : Vec ℕ Global). c.items) (set columns p column) })
+    × (get_or (map (λ (c : Vec ℕ Global). c.items) (set columns p column)) p [] ≡ map (digit_in m p) tests)
+one_filled m tests columns p column is within filled = (
+  record {
+    plain = is.plain;
+    wide = ap length after ∙ length-set before p column.items ∙ is.wide;
+    each =
+        λ q exists some.
+        elim (cases_eq q p) [
+          | inl same ↦ subst (λ k. get_or (map (λ (c : Vec ℕ Global). c.items) (set columns p column)) k [] ≡ map (digit_in m k) tests) (sym same) here
+          | inr apart ↦
+              let other = ap (λ cs. get_or cs q []) after ∙ get_or-set_other before p q column.items [] apart in
+              other ∙ is.each q exists (λ empty. some (other ∙ empty))
+        ];
+  },
+  here,
+)
+  where
+    before : List (List ℕ)
+    before = map (λ (c : Vec ℕ Global). c.items) columns
 
--- a place is put into each of the columns before one
-pub record ArePushed (before columns : List (List ℕ)) (digits : List Digit) (upto : ℕ) : Type 0 where
-  pub long : length columns ≡ length before
-  pub done : (p : ℕ) (other : Digit) → p < upto → get_or columns p [] ≡ get_or before p [] ++ (get_or digits p other).place ∷ []
-  pub left : (p : ℕ) → upto ≤ p → get_or columns p [] ≡ get_or before p []
+    after : map (λ (c : Vec ℕ Global). c.items) (set columns p column) ≡ set before p column.items
+    after = map-set (λ (c : Vec ℕ Global). c.items) columns p column
 
-pub pushed_more : (before columns after : List (List ℕ)) (digits : List Digit) (p : ℕ) (digit : Digit) (column : List ℕ) → p < length before → p < length digits
-    → ArePushed before columns digits p → column ≡ get_or columns p [] ++ (get_or digits p digit).place ∷ [] → after ≡ set columns p column
-    → ArePushed before after digits (p + 1)
-pushed_more before columns after digits p digit column within inside are is next = record {
-  long = ap length next ∙ length-set columns p column ∙ are.long;
-  done =
-      λ q other below.
-      elim (cases_eq q p) [
-        | inl same ↦
-            subst (λ k. get_or after k [] ≡ get_or before k [] ++ (get_or digits k other).place ∷ []) (sym same)
-            (ap (λ cs. get_or cs p []) next ∙ get_or-set_same columns p column [] (omega (arith, within, are.long)) ∙ is
-            ∙ ap (λ c. c ++ (get_or digits p digit).place ∷ []) (are.left p (omega arith))
-            ∙ ap (λ (d : Digit). get_or before p [] ++ d.place ∷ []) (get_or_default digits p digit other inside))
-        | inr apart ↦
-            ap (λ cs. get_or cs q []) next ∙ get_or-set_other columns p q column [] apart ∙ are.done q other (omega (arith, below, apart))
-      ];
-  left = λ q past.
-      let apart : q ≢ p = λ same. omega (arith, same, past) in
-      ap (λ cs. get_or cs q []) next ∙ get_or-set_other columns p q column [] apart ∙ are.left q (omega (arith, past));
-}
+    here : get_or (map (λ (c : Vec ℕ Global). c.items) (set columns p column)) p [] ≡ map (digit_in m p) tests
+    here = ap (λ cs. get_or cs p []) after ∙ get_or-set_same before p column.items [] (omega (arith, within, is.wide)) ∙ filled
 
-pub column_pushed : (before : List (List ℕ)) (columns : List (Vec ℕ Global)) (digits : List Digit) (p : ℕ) (digit : Digit) (old new : Vec ℕ Global)
-    → p < length columns → p < length digits → ArePushed before (map (λ column. column.items) columns) digits p → old ≡ get_or columns p old
-    → new.items ≡ old.items ++ (get_or digits p digit).place ∷ [] → ArePushed before (map (λ column. column.items) (set columns p new)) digits (p + 1)
-column_pushed before columns digits p digit old new within inside are is pushed =
-    pushed_more before (map (λ column. column.items) columns) _ digits p digit new.items
-    (omega (arith, within, are.long, length-map columns (λ (column : Vec ℕ Global). column.items))) inside are
-    (pushed ∙ ap (λ (list : Vec ℕ Global). list.items ++ (get_or digits p digit).place ∷ []) is
-    ∙ ap (λ list. list ++ (get_or digits p digit).place ∷ []) (sym (get_or-map (λ (column : Vec ℕ Global). column.items) columns p old [] within)))
-    (map-set (λ (column : Vec ℕ Global). column.items) columns p new)
+-- one test more in a column
+pub place_pushed : {X : Type 0} (f : X → ℕ) (before column after : List ℕ) (tests : List X) (i place : ℕ) (d : X) → i < length tests
+    → column ≡ before ++ map f (take i tests) → place ≡ f (get_or tests i d) → after ≡ column ++ place ∷ []
+    → after ≡ before ++ map f (take (i + 1) tests)
+place_pushed f before column after tests i place d within so_far is next =
+    next ∙ ap (λ xs. xs ++ place ∷ []) so_far ∙ append_assoc before (map f (take i tests)) (place ∷ [])
+    ∙ ap (λ v. before ++ (map f (take i tests) ++ v ∷ [])) is ∙ ap (λ xs. before ++ xs) (sym (map-append f (take i tests) (get_or tests i d ∷ [])))
+    ∙ ap (λ xs. before ++ map f xs) (sym (take_more tests i d within))
 
 -- a digit is added to each of the numbers before one
 pub record AreAdded (before numbers digits : List ℕ) (radix upto : ℕ) : Type 0 where
@@ -135,17 +121,6 @@ added_more before numbers after digits radix at number within are is next = reco
       ap (λ ns. get_or ns k 0) next ∙ get_or-set_other numbers at k number 0 apart ∙ are.left k (omega (arith, past));
 }
 
--- the place of the value that a test gives a parameter
-pub column_at : (m : ModelView) (columns : ColumnsView) (p at : ℕ) (column : List ℕ) → AreColumns m columns → p < length m.params → at < length columns.tests
-    → column ≡ get_or columns.places p [] → get_or column at 0 ≡ digit_in m p (get_or columns.tests at [])
-column_at m columns p at column is exists within are =
-    ap (λ xs. get_or xs at 0) (are ∙ is.each p exists) ∙ get_or-map (digit_in m p) columns.tests at [] 0 within
-
--- a column has a place for each test
-pub column_long : (m : ModelView) (columns : ColumnsView) (p : ℕ) (column : List ℕ) → AreColumns m columns → p < length m.params
-    → column ≡ get_or columns.places p [] → length column ≡ length columns.tests
-column_long m columns p column is exists are = ap length (are ∙ is.each p exists) ∙ length-map columns.tests (digit_in m p)
-
 -- the places of the tests' values of some members, of which the first ones make the numbers
 pub record PlacesSoFar (m : ModelView) (tests : List (List (Option ℕ))) (members : List ℕ) (i : ℕ) (numbers : List ℕ) : Type 0 where
   pub long : length numbers ≡ length tests
@@ -166,30 +141,30 @@ pub record ArePlaced (m : ModelView) (tests : List (List (Option ℕ))) (members
   pub few : All (λ row. place_in m members row < 2 ^ 26) tests
   pub some : All (λ row. 0 < ways (own_slice m row) members) tests
 
-pub places_joined : (m : ModelView) (columns : ColumnsView) (members numbers column : List ℕ) (i d radix : ℕ) → AreColumns m columns → ArePlaced m columns.tests members
-    → i < length members → PlacesSoFar m columns.tests members i numbers → radix ≡ length (positive_values m (get_or members i d))
-    → column ≡ get_or columns.places (get_or members i d) [] → (at : ℕ) → at < length columns.tests
-    → IsJoined m (get_or columns.tests at []) members i (get_or numbers at 0) radix (get_or column at 0)
-places_joined m columns members numbers column i d radix is placed inside so_far many are at within =
+pub places_joined : (m : ModelView) (tests : List (List (Option ℕ))) (members numbers column : List ℕ) (i d radix : ℕ) → ArePlain m tests → ArePlaced m tests members
+    → i < length members → PlacesSoFar m tests members i numbers → radix ≡ length (positive_values m (get_or members i d))
+    → column ≡ map (digit_in m (get_or members i d)) tests → (at : ℕ) → at < length tests
+    → IsJoined m (get_or tests at []) members i (get_or numbers at 0) radix (get_or column at 0)
+places_joined m tests members numbers column i d radix plain placed inside so_far many are at within =
     let p = get_or members i d in
-    let row = get_or columns.tests at [] in
+    let row = get_or tests at [] in
     let exists = All-get_or (λ q. q < length m.params) members i d inside placed.exist in
     joined m row members i d (get_or numbers at 0) radix (get_or column at 0)
-    (many ∙ ap length (sym (plain_slice m row p (plain_at m columns at is within) exists)))
-    (column_at m columns p at column is exists within are) inside (so_far.each at within)
-    (All-get_or (λ r. 0 < ways (own_slice m r) members) columns.tests at [] within placed.some)
-    (All-get_or (λ r. place_in m members r < 2 ^ 26) columns.tests at [] within placed.few)
+    (many ∙ ap length (sym (plain_slice m row p (plain_at m tests at plain within) exists)))
+    (ap (λ xs. get_or xs at 0) are ∙ get_or-map (digit_in m p) tests at [] 0 within) inside (so_far.each at within)
+    (All-get_or (λ r. 0 < ways (own_slice m r) members) tests at [] within placed.some)
+    (All-get_or (λ r. place_in m members r < 2 ^ 26) tests at [] within placed.few)
 
-pub places_more : (m : ModelView) (columns : ColumnsView) (members numbers column after : List ℕ) (i d radix : ℕ) → AreColumns m columns → ArePlaced m columns.tests members
-    → i < length members → PlacesSoFar m columns.tests members i numbers → radix ≡ length (positive_values m (get_or members i d))
-    → column ≡ get_or columns.places (get_or members i d) [] → length after ≡ length numbers
+pub places_more : (m : ModelView) (tests : List (List (Option ℕ))) (members numbers column after : List ℕ) (i d radix : ℕ) → ArePlain m tests → ArePlaced m tests members
+    → i < length members → PlacesSoFar m tests members i numbers → radix ≡ length (positive_values m (get_or members i d))
+    → column ≡ map (digit_in m (get_or members i d)) tests → length after ≡ length numbers
     → ((at : ℕ) → at < length numbers → get_or after at 0 ≡ get_or numbers at 0 * radix + get_or column at 0)
-    → PlacesSoFar m columns.tests members (i + 1) after
-places_more m columns members numbers column after i d radix is placed inside so_far many are long each = record {
+    → PlacesSoFar m tests members (i + 1) after
+places_more m tests members numbers column after i d radix plain placed inside so_far many are long each = record {
   long = long ∙ so_far.long;
   each = λ at within.
-      subst (IsPlacing (own_slice m (get_or columns.tests at [])) (get_or columns.tests at []) members (i + 1)) (sym (each at (omega (arith, within, so_far.long))))
-      (places_joined m columns members numbers column i d radix is placed inside so_far many are at within).placing;
+      subst (IsPlacing (own_slice m (get_or tests at [])) (get_or tests at []) members (i + 1)) (sym (each at (omega (arith, within, so_far.long))))
+      (places_joined m tests members numbers column i d radix plain placed inside so_far many are at within).placing;
 }
 
 pub places_end : (m : ModelView) (tests : List (List (Option ℕ))) (members numbers : List ℕ) (i : ℕ) → length members ≤ i → PlacesSoFar m tests members i numbers

@@ -15,3 +15,5 @@ pub mod FlagLemmas
 pub mod GatherLemmas
 pub mod LineLemmas
 pub mod OpenLemmas
+pub mod CountLemmas
+pub mod SignLemmas

@@ -2,7 +2,6 @@
 use Rattle.std.proofs.Common.{◌≡◌, ℕ, ◌+◌, ◌-◌, ◌*◌, ◌^◌, ◌<◌, ◌≤◌, suc, true, ◌&&◌, ◌||◌, List, [], ◌∷◌, ◌++◌, map, take, drop, length, get_or, All, Option, Some, ◌∙◌, refl, sym, ap, subst, arith}
 use Rattle.std.specs.Prelude.{nat_le, nat_lt, sum}
 use Rattle.std.proofs.Math.Bool.{and-or_distrib_left}
-use Rattle.std.proofs.Math.Nat.{mul_assoc}
 use Rattle.std.proofs.lemmas.Bool.{and_right}
 use Rattle.std.proofs.lemmas.List.{get_or-map, length-map, take-append-drop}
 use Rattle.std.proofs.lemmas.List.Elements.{All-from_get_or, All-take}
@@ -18,21 +17,16 @@ use Rattle.tuple_index.specs.Places.{place, place_of, ways}
 use Rattle.tuple_index.specs.Plan.{PlanView, plan_of, set_at}
 use Rattle.tuple_index.proofs.LoopLemmas.{rises_within}
 use Rattle.tuple_index.proofs.OrderLemmas.{demanded_rise}
+use Rattle.tuple_index.proofs.PlaceLemmas.{ways_append}
 use Rattle.shared_marks.specs.declared.open_sets.Line.{Line}
-use Rattle.shared_marks.specs.TestColumns.{AreRanks, ColumnsView, AreColumns, digit_in, is_plain, place_in}
+use Rattle.shared_marks.specs.TestColumns.{ArePlain, AreRanks, digit_in, is_plain, place_in}
 use Rattle.shared_marks.specs.Digits.{IsPlacing, own_slice}
 use Rattle.shared_marks.specs.OpenSets.{IsLine, front}
 use Rattle.shared_marks.specs.Adding.{are_behind}
 use Rattle.shared_marks.specs.Served.{IsServedRank, base_of, is_served_at, served_between}
-use Rattle.shared_marks.proofs.ColumnLemmas.{ArePlaced, PlainTest, column_at, plain_at, plain_slice, plain_test}
+use Rattle.shared_marks.proofs.ColumnLemmas.{ArePlaced, PlainTest, plain_at, plain_slice, plain_test}
 use Rattle.shared_marks.proofs.DigitLemmas.{IsJoined, OwnPlace, joined, own_place_of, placing_end, placing_within}
 use Rattle.shared_marks.proofs.PlaceLemmas.{none_served, one_set, served_append, set_within}
-
--- the members of two lists
-ways_append : (values : ℕ → List ℕ) (xs ys : List ℕ) → ways values (xs ++ ys) ≡ ways values xs * ways values ys
-ways_append values [] ys = omega arith
-ways_append values (x ∷ xs) ys =
-    ap (λ n. length (values x) * n) (ways_append values xs ys) ∙ sym (mul_assoc (length (values x)) (ways values xs) (ways values ys))
 
 place_append : (values : ℕ → List ℕ) (row : List (Option ℕ)) (xs ys : List ℕ) → place values (xs ++ ys) (map (value_in row) (xs ++ ys))
     ≡ place values xs (map (value_in row) xs) * ways values ys + place values ys (map (value_in row) ys)
@@ -68,17 +62,17 @@ own_of m i row kept within valid positive =
     own_place_of m (plan_of m) i row (set_at (plan_of m) i) Positive true refl within valid refl kept (sym positive) refl refl
 
 -- the first members of its set make places
-pub fronts_placed : (m : ModelView) (plan : PlanView) (columns : ColumnsView) (line : Line) (members : List ℕ) → plan ≡ plan_of m → IsKept plan → AreColumns m columns
-    → IsLine plan line → members ≡ front (set_at plan line.set) → ArePlaced m columns.tests members
-fronts_placed m plan columns line members planned kept is line_is are =
-    subst (ArePlaced m columns.tests) (sym (are ∙ ap (λ p. front (set_at p line.set)) planned)) (record {
+pub fronts_placed : (m : ModelView) (plan : PlanView) (tests : List (List (Option ℕ))) (line : Line) (members : List ℕ) → plan ≡ plan_of m → IsKept plan → ArePlain m tests
+    → IsLine plan line → members ≡ front (set_at plan line.set) → ArePlaced m tests members
+fronts_placed m plan tests line members planned kept plain line_is are =
+    subst (ArePlaced m tests) (sym (are ∙ ap (λ p. front (set_at p line.set)) planned)) (record {
       exist = All-take (λ p. p < length m.params) k set (members_exist m line.set within);
-      few = All-from_get_or (λ row. place_in m (take k set) row < 2 ^ 26) columns.tests [] (λ at inside.
-          let row = get_or columns.tests at [] in
+      few = All-from_get_or (λ row. place_in m (take k set) row < 2 ^ 26) tests [] (λ at inside.
+          let row = get_or tests at [] in
           let most = placing_within (own_slice m row) row set k (place_in m (take k set) row) (own at inside).some (front_placing (own_slice m row) row set k _ refl) in
           omega (arith, most, (own at inside).few));
-      some = All-from_get_or (λ row. 0 < ways (own_slice m row) (take k set)) columns.tests [] (λ at inside.
-          let row = get_or columns.tests at [] in
+      some = All-from_get_or (λ row. 0 < ways (own_slice m row) (take k set)) tests [] (λ at inside.
+          let row = get_or tests at [] in
           pos_left_of_mul (ways (own_slice m row) (take k set)) (ways (own_slice m row) (drop k set))
           (subst (λ n. 0 < n) (ap (ways (own_slice m row)) (sym (take-append-drop k set)) ∙ ways_append (own_slice m row) (take k set) (drop k set)) (own at inside).some));
     })
@@ -92,10 +86,10 @@ fronts_placed m plan columns line members planned kept is line_is are =
     within : line.set < length (demanded_sets m)
     within = (subst (λ p. IsLine p line) planned line_is).there
 
-    own : (at : ℕ) → at < length columns.tests → OwnPlace m line.set (get_or columns.tests at []) (plan_of m) set Positive
+    own : (at : ℕ) → at < length tests → OwnPlace m line.set (get_or tests at []) (plan_of m) set Positive
     own at inside =
-        let plain = plain_at m columns at is inside in
-        own_of m line.set (get_or columns.tests at []) (subst IsKept planned kept) within plain.valid plain.positive
+        let test = plain_at m tests at plain inside in
+        own_of m line.set (get_or tests at []) (subst IsKept planned kept) within test.valid test.positive
 
 -- the rank that a line gives
 pub record LineKnown (m : ModelView) (i : ℕ) (row : List (Option ℕ)) (number radix there : ℕ) : Type 0 where
@@ -145,30 +139,30 @@ base_of_line : (m : ModelView) (plan : PlanView) (line : Line) → plan ≡ plan
 base_of_line m plan line planned is = is.base ∙ ap (λ p. sum (take line.set p.sizes)) planned
 
 -- the rank of a test
-pub line_at : (m : ModelView) (plan : PlanView) (columns : ColumnsView) (line : Line) (fronts column : List ℕ) (radix at : ℕ) → plan ≡ plan_of m → IsKept plan
-    → AreColumns m columns → IsLine plan line → fronts ≡ map (place_in m (front (set_at plan line.set))) columns.tests → radix ≡ length (positive_values m line.last)
-    → column ≡ get_or columns.places line.last [] → at < length columns.tests
-    → LineKnown m line.set (get_or columns.tests at []) (get_or fronts at 0) radix (get_or column at 0)
-line_at m plan columns line fronts column radix at planned kept is line_is are many column_is within =
-    line_known m plan (get_or columns.tests at []) line (get_or fronts at 0) radix (get_or column at 0) planned kept (plain_at m columns at is within) line_is
-    (ap (λ ns. get_or ns at 0) are ∙ get_or-map (place_in m (front (set_at plan line.set))) columns.tests at [] 0 within) many
-    (column_at m columns line.last at column is (last_exists m plan line planned line_is) within column_is)
+pub line_at : (m : ModelView) (plan : PlanView) (tests : List (List (Option ℕ))) (line : Line) (fronts column : List ℕ) (radix at : ℕ) → plan ≡ plan_of m → IsKept plan
+    → ArePlain m tests → IsLine plan line → fronts ≡ map (place_in m (front (set_at plan line.set))) tests → radix ≡ length (positive_values m line.last)
+    → column ≡ map (digit_in m line.last) tests → at < length tests
+    → LineKnown m line.set (get_or tests at []) (get_or fronts at 0) radix (get_or column at 0)
+line_at m plan tests line fronts column radix at planned kept plain line_is are many column_is within =
+    line_known m plan (get_or tests at []) line (get_or fronts at 0) radix (get_or column at 0) planned kept (plain_at m tests at plain within) line_is
+    (ap (λ ns. get_or ns at 0) are ∙ get_or-map (place_in m (front (set_at plan line.set))) tests at [] 0 within) many
+    (ap (λ ns. get_or ns at 0) column_is ∙ get_or-map (digit_in m line.last) tests at [] 0 within)
 
 -- the ranks of all tests
-pub ranks_known : (m : ModelView) (plan : PlanView) (columns : ColumnsView) (line : Line) (fronts column ranks : List ℕ) (radix : ℕ) → plan ≡ plan_of m → IsKept plan
-    → AreColumns m columns → IsLine plan line → fronts ≡ map (place_in m (front (set_at plan line.set))) columns.tests → radix ≡ length (positive_values m line.last)
-    → column ≡ get_or columns.places line.last [] → length ranks ≡ length fronts
+pub ranks_known : (m : ModelView) (plan : PlanView) (tests : List (List (Option ℕ))) (line : Line) (fronts column ranks : List ℕ) (radix : ℕ) → plan ≡ plan_of m → IsKept plan
+    → ArePlain m tests → IsLine plan line → fronts ≡ map (place_in m (front (set_at plan line.set))) tests → radix ≡ length (positive_values m line.last)
+    → column ≡ map (digit_in m line.last) tests → length ranks ≡ length fronts
     → ((at : ℕ) → at < length fronts → get_or ranks at 0 ≡ get_or fronts at 0 * radix + get_or column at 0)
-    → AreRanks m (set_at (plan_of m) line.set) columns.tests ranks
-ranks_known m plan columns line fronts column ranks radix planned kept is line_is are many column_is long each = record {
+    → AreRanks m (set_at (plan_of m) line.set) tests ranks
+ranks_known m plan tests line fronts column ranks radix planned kept plain line_is are many column_is long each = record {
   long = long ∙ as_long;
   each = λ at within.
-      subst (λ rank. IsServedRank m (set_at (plan_of m) line.set) (get_or columns.tests at []) (Some rank)) (sym (each at (omega (arith, within, as_long))))
-      (line_at m plan columns line fronts column radix at planned kept is line_is are many column_is within).is;
+      subst (λ rank. IsServedRank m (set_at (plan_of m) line.set) (get_or tests at []) (Some rank)) (sym (each at (omega (arith, within, as_long))))
+      (line_at m plan tests line fronts column radix at planned kept plain line_is are many column_is within).is;
 }
   where
-    as_long : length fronts ≡ length columns.tests
-    as_long = ap length are ∙ length-map columns.tests (place_in m (front (set_at plan line.set)))
+    as_long : length fronts ≡ length tests
+    as_long = ap length are ∙ length-map tests (place_in m (front (set_at plan line.set)))
 
 -- they are ranks of the set
 pub ranks_within : (m : ModelView) (i size : ℕ) (tests : List (List (Option ℕ))) (ranks : List ℕ) → size ≡ length (tuples_of m (set_at (plan_of m) i))
@@ -190,7 +184,7 @@ line_within m plan line size planned is many =
     omega (arith, set_within m line.set there, line_size m plan line size planned is many, base_of_line m plan line planned is)
 
 -- the places of these ranks are those that the tests serve
-ranks_serve : (m : ModelView) (i place : ℕ) (tests : List (List (Option ℕ))) (ranks : List ℕ) → i < length (demanded_sets m) → All (λ row. is_plain m row ≡ true) tests
+ranks_serve : (m : ModelView) (i place : ℕ) (tests : List (List (Option ℕ))) (ranks : List ℕ) → i < length (demanded_sets m) → ArePlain m tests
     → AreRanks m (set_at (plan_of m) i) tests ranks → are_behind (base_of m i) ranks place ≡ served_between m tests (base_of m i) (base_of m (i + 1)) place
 ranks_serve m i place [] [] there plain are =
     sym (and_right (nat_le (base_of m i) place && nat_lt place (base_of m (i + 1))) (is_served_at m [] place) (none_served m [] place refl))
@@ -205,9 +199,9 @@ ranks_serve m i place (row ∷ rows) (rank ∷ ranks) there plain are =
     ∙ sym (and-or_distrib_left (nat_le (base_of m i) place && nat_lt place (base_of m (i + 1))) (is_served_at m (row ∷ []) place) (is_served_at m rows place))
     ∙ ap (λ t. (nat_le (base_of m i) place && nat_lt place (base_of m (i + 1))) && t) (served_append m (row ∷ []) rows place)
 
-pub line_serves : (m : ModelView) (plan : PlanView) (columns : ColumnsView) (line : Line) (ranks : List ℕ) → plan ≡ plan_of m → AreColumns m columns → IsLine plan line
-    → AreRanks m (set_at (plan_of m) line.set) columns.tests ranks → (place : ℕ)
-    → are_behind line.base ranks place ≡ served_between m columns.tests (base_of m line.set) (base_of m (line.set + 1)) place
-line_serves m plan columns line ranks planned is line_is are place =
+pub line_serves : (m : ModelView) (plan : PlanView) (tests : List (List (Option ℕ))) (line : Line) (ranks : List ℕ) → plan ≡ plan_of m → ArePlain m tests → IsLine plan line
+    → AreRanks m (set_at (plan_of m) line.set) tests ranks → (place : ℕ)
+    → are_behind line.base ranks place ≡ served_between m tests (base_of m line.set) (base_of m (line.set + 1)) place
+line_serves m plan tests line ranks planned plain line_is are place =
     ap (λ base. are_behind base ranks place) (base_of_line m plan line planned line_is)
-    ∙ ranks_serve m line.set place columns.tests ranks (subst (λ p. IsLine p line) planned line_is).there is.plain are
+    ∙ ranks_serve m line.set place tests ranks (subst (λ p. IsLine p line) planned line_is).there plain are

@@ -1,4 +1,5 @@
-ghost use Rattle.std.specs.Prelude.{◌≡◌, ◌+◌, ◌%◌, ◌<◌, ◌≤◌, false, length, slice_index_or};
+ghost use Rattle.std.specs.Prelude.{◌≡◌, ◌+◌, ◌%◌, ◌<◌, ◌≤◌, false, drop, length, slice_index_or, take};
+ghost use Rattle.std.specs.List.{count_by};
 ghost use Rattle.std.specs.Slots.{IsFull, slots_items, slots_len};
 ghost use Rattle.bit_table.specs.Marks.{AreMarksFrom};
 
@@ -54,8 +55,34 @@ impl Bits {
         requires within { from + count ≤ length self.now }
         ensures { AreMarksFrom self.now from count result }
     {
-        let word = self.words[from as usize / WORD_BITS];
-        word & (u64::MAX >> (WORD_BITS - count as usize))
+        self.marks_in_word(from as usize, count as usize)
+    }
+
+    /// How many of the `count` neighbouring places from `from` on are marked. Takes no memory.
+    pub fn count_marked(&self, from: u32, count: u32) -> u32
+        requires { from + count ≤ length self.now }
+        ensures { result ≡ count_by (λ mark. mark) (take count (drop from self.now)) }
+    {
+        let end = from as usize + count as usize;
+        let mut place = from as usize;
+        let mut marked = 0;
+        while place < end {
+            let near = (WORD_BITS - place % WORD_BITS).min(end - place);
+            marked += self.marks_in_word(place, near).count_ones();
+            place += near;
+        }
+        marked
+    }
+
+    // The marks of neighbouring places that share a word, as the lowest bits of a word, whose other bits are 0.
+    fn marks_in_word(&self, from: usize, count: usize) -> u64
+        requires some { 0 < count }
+        requires shared { from % 64 + count ≤ 64 }
+        requires within { from + count ≤ length self.now }
+        ensures { AreMarksFrom self.now from count result }
+    {
+        let word = self.words[from / WORD_BITS];
+        (word >> (from % WORD_BITS)) & (u64::MAX >> (WORD_BITS - count))
     }
 }
 

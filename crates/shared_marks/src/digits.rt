@@ -8,6 +8,7 @@ ghost use Rattle.cov_model.specs.believed.Valid.{is_valid};
 ghost use Rattle.tuple_index.specs.Places.{place, place_of, values_in, ways};
 ghost use Rattle.tuple_index.specs.Plan.{plan_of};
 ghost use Rattle.shared_marks.specs.Digits.{AreDigits, IsDigit, is_fixed};
+ghost use Rattle.shared_marks.specs.TestColumns.{HasNoNegative};
 
 use cov_model::{Cells, ParamNo, Slice, TestModel, Value, ValueNo};
 use tuple_index::Plan;
@@ -63,6 +64,21 @@ pub(crate) fn radix_of(model: &TestModel, plan: &Plan, p: ParamNo) -> u32
     plan.value_count(p, Slice::Positive) as u32
 }
 
+// Whether no parameter has a negative value.
+pub(crate) fn has_no_negative(model: &TestModel, plan: &Plan) -> bool
+    requires { plan.now ≡ plan_of model.now }
+    ensures { result ≡ true → HasNoNegative model.now }
+{
+    model.assert_invariant();
+    let count = model.params().len() as ParamNo;
+    for p in 0..count {
+        if radix_of(model, plan, p) as usize != values_of(model, p).len() {
+            return false;
+        }
+    }
+    true
+}
+
 // The digit of a value that isn't negative, where its parameter may have any such value.
 fn positive_digit(model: &TestModel, plan: &Plan, p: ParamNo, v: ValueNo) -> Digit
     requires plan { plan.now ≡ plan_of model.now }
@@ -84,7 +100,13 @@ fn positive_digit(model: &TestModel, plan: &Plan, p: ParamNo, v: ValueNo) -> Dig
 }
 
 // The digit of the value that a valid row gives a parameter.
-fn digit_of(model: &TestModel, plan: &Plan, cells: &Cells, slice: Slice, p: ParamNo) -> Digit
+pub(crate) fn digit_of(
+    model: &TestModel,
+    plan: &Plan,
+    cells: &Cells,
+    slice: Slice,
+    p: ParamNo,
+) -> Digit
     requires plan { plan.now ≡ plan_of model.now }
     requires row { is_valid model.now cells.now ≡ true }
     requires slice { slice ≡ slice_of model.now cells.now }

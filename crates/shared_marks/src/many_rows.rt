@@ -9,7 +9,7 @@ ghost use Rattle.shared_marks.specs.TestColumns.{AreColumns, AreRanks, is_positi
 ghost use Rattle.shared_marks.specs.OpenSets.{AreLines, AreOpen, IsLine, front, is_of_some};
 ghost use Rattle.shared_marks.specs.Served.{base_of, is_served_at, served_between};
 
-use crate::digits::radix_of;
+use crate::digits::{has_no_negative, radix_of};
 use crate::open_sets::{Line, OpenSets, front};
 use crate::ranks::mark_ranks;
 use crate::seat::MarkSeat;
@@ -34,20 +34,23 @@ fn put_fronts(
     model: &TestModel,
     plan: &Plan,
     line: Line,
-    columns: &TestColumns<'_>,
+    columns: &mut TestColumns<'_>,
     places: &mut [u32],
-)
+) -> Result<(), NoMemory>
     requires plan { plan.now ≡ plan_of model.now }
-    requires columns { AreColumns model.now columns.now }
+    requires columns { AreColumns model.now columns.old }
     requires line { IsLine plan.now line }
-    requires room { length places.old ≡ length columns.now.tests }
-    requires kept { line.is_fresh ≡ false → places.old ≡ map (place_in model.now (front (set_at plan.now line.set))) columns.now.tests }
-    ensures { places.new ≡ map (place_in model.now (front (set_at plan.now line.set))) columns.now.tests }
+    requires room { length places.old ≡ length columns.old.tests }
+    requires kept { line.is_fresh ≡ false → places.old ≡ map (place_in model.now (front (set_at plan.now line.set))) columns.old.tests }
+    ensures places { OnOk result (places.new ≡ map (place_in model.now (front (set_at plan.now line.set))) columns.old.tests) }
+    ensures tests { OnOk result (columns.new.tests ≡ columns.old.tests) }
+    ensures columns { OnOk result (AreColumns model.now columns.new) }
 {
-    if line.is_fresh {
-        plan.assert_invariant();
-        put_places(model, plan, front(plan.members(line.set)), columns, places);
+    if !line.is_fresh {
+        return Ok(());
     }
+    plan.assert_invariant();
+    put_places(model, plan, front(plan.members(line.set)), columns, places)
 }
 
 // Puts for each test the rank of the demanded tuple of a line's set that it serves. The places of the tests' values of
@@ -56,24 +59,28 @@ fn put_ranks(
     model: &TestModel,
     plan: &Plan,
     line: Line,
-    columns: &TestColumns<'_>,
+    columns: &mut TestColumns<'_>,
     fronts: &[u32],
     ranks: &mut [u32],
-)
+) -> Result<(), NoMemory>
     requires plan { plan.now ≡ plan_of model.now }
-    requires columns { AreColumns model.now columns.now }
+    requires columns { AreColumns model.now columns.old }
     requires line { IsLine plan.now line }
-    requires fronts { fronts.now ≡ map (place_in model.now (front (set_at plan.now line.set))) columns.now.tests }
-    requires room { length ranks.old ≡ length columns.now.tests }
-    ensures { AreRanks model.now (set_at (plan_of model.now) line.set) columns.now.tests ranks.new }
+    requires fronts { fronts.now ≡ map (place_in model.now (front (set_at plan.now line.set))) columns.old.tests }
+    requires room { length ranks.old ≡ length columns.old.tests }
+    ensures ranks { OnOk result (AreRanks model.now (set_at (plan_of model.now) line.set) columns.old.tests ranks.new) }
+    ensures tests { OnOk result (columns.new.tests ≡ columns.old.tests) }
+    ensures columns { OnOk result (AreColumns model.now columns.new) }
 {
     plan.assert_invariant();
+    columns.fill(model, plan, line.last)?;
     ranks.copy_from_slice(fronts);
     add_digits(
         ranks,
         radix_of(model, plan, line.last),
         columns.column(line.last),
     );
+    Ok(())
 }
 
 // Marks the places of the demanded tuples of a line's set that the tests serve. The places of their values of all
@@ -84,23 +91,26 @@ fn mark_line(
     model: &TestModel,
     plan: &Plan,
     line: Line,
-    columns: &TestColumns<'_>,
+    columns: &mut TestColumns<'_>,
     fronts: &[u32],
     ranks: &mut [u32],
     words: &mut [u64],
-)
+) -> Result<(), NoMemory>
     requires table { seat.old.table ≡ table.now.table }
     requires plan { plan.now ≡ plan_of model.now }
     requires bits { table.now.bits ≡ length (demanded_tuples model.now) }
-    requires columns { AreColumns model.now columns.now }
+    requires columns { AreColumns model.now columns.old }
     requires line { IsLine plan.now line }
-    requires fronts { fronts.now ≡ map (place_in model.now (front (set_at plan.now line.set))) columns.now.tests }
-    requires room { length ranks.old ≡ length columns.now.tests }
-    ensures marks { Marks (served_between model.now columns.now.tests (base_of model.now line.set) (base_of model.now (line.set + 1))) seat.old seat.new }
-    ensures room { length ranks.new ≡ length ranks.old }
+    requires fronts { fronts.now ≡ map (place_in model.now (front (set_at plan.now line.set))) columns.old.tests }
+    requires room { length ranks.old ≡ length columns.old.tests }
+    ensures marks { OnOk result (Marks (served_between model.now columns.old.tests (base_of model.now line.set) (base_of model.now (line.set + 1))) seat.old seat.new) }
+    ensures room { OnOk result (length ranks.new ≡ length ranks.old) }
+    ensures tests { OnOk result (columns.new.tests ≡ columns.old.tests) }
+    ensures columns { OnOk result (AreColumns model.now columns.new) }
 {
-    put_ranks(model, plan, line, columns, fronts, ranks);
+    put_ranks(model, plan, line, columns, fronts, ranks)?;
     mark_ranks(table, seat, line.base, plan.size(line.set), ranks, words);
+    Ok(())
 }
 
 // Marks the places of the demanded tuples of the lines' sets that the tests serve. There is room for two
@@ -111,26 +121,27 @@ fn mark_lines(
     model: &TestModel,
     plan: &Plan,
     lines: &[Line],
-    columns: &TestColumns<'_>,
+    columns: &mut TestColumns<'_>,
     fronts: &mut [u32],
     ranks: &mut [u32],
     words: &mut [u64],
-)
+) -> Result<(), NoMemory>
     requires table { seat.old.table ≡ table.now.table }
     requires plan { plan.now ≡ plan_of model.now }
     requires bits { table.now.bits ≡ length (demanded_tuples model.now) }
-    requires columns { AreColumns model.now columns.now }
+    requires columns { AreColumns model.now columns.old }
     requires lines { AreLines plan.now lines.now }
-    requires fronts { length fronts.old ≡ length columns.now.tests }
-    requires ranks { length ranks.old ≡ length columns.now.tests }
-    ensures { Marks (λ place. is_of_some plan.now lines.now place && is_served_at model.now columns.now.tests place) seat.old seat.new }
+    requires fronts { length fronts.old ≡ length columns.old.tests }
+    requires ranks { length ranks.old ≡ length columns.old.tests }
+    ensures { OnOk result (Marks (λ place. is_of_some plan.now lines.now place && is_served_at model.now columns.old.tests place) seat.old seat.new) }
 {
     for line in lines {
-        put_fronts(model, plan, *line, columns, fronts);
+        put_fronts(model, plan, *line, columns, fronts)?;
         mark_line(
             table, seat, model, plan, *line, columns, fronts, ranks, words,
-        );
+        )?;
     }
+    Ok(())
 }
 
 // Marks the place of each demanded tuple that a row with a negative value serves, if it is a test.
@@ -166,6 +177,9 @@ fn mark_negatives(
     requires fits { All (λ row. FitsModel model.now row.cells) rows.now }
     ensures { Marks (is_served_at model.now (filter (λ cells. not (is_positive (slice_of model.now cells))) (map (λ row. row.cells) rows.now))) seat.old seat.new }
 {
+    if has_no_negative(model, plan) {
+        return;
+    }
     for row in rows {
         mark_negative(table, seat, model, plan, row);
     }
@@ -194,7 +208,7 @@ fn mark_many(
     if in_play.are_none(plan) {
         return Ok(());
     }
-    let columns = TestColumns::of(alloc, model, plan, rows)?;
+    let mut columns = TestColumns::of(alloc, model, plan, rows)?;
     let mut fronts = vec![in alloc; 0; columns.len()]?;
     let mut ranks = vec![in alloc; 0; columns.len()]?;
     // gathering pays where a set has fewer words than there are tests
@@ -206,11 +220,11 @@ fn mark_many(
         model,
         plan,
         lines,
-        &columns,
+        &mut columns,
         &mut fronts,
         &mut ranks,
         &mut words,
-    );
+    )?;
     Ok(())
 }
 

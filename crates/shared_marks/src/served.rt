@@ -19,7 +19,7 @@ use row_text::{RowFile, is_complete};
 use tuple_index::Plan;
 
 // The most parameters that a model has.
-pub(crate) const MOST_PARAMS: usize = 256;
+const MOST_PARAMS: usize = 256;
 
 /// The number of demanded tuples of a plan. Takes no memory.
 pub fn count_tuples(plan: &Plan) -> u32

@@ -2,6 +2,7 @@
 use Rattle.std.proofs.Common.{inl, inr, ◌≡◌, ℕ, zero, suc, ◌+◌, ◌*◌, Bool, true, false, ◌||◌, ◌&&◌, List, [], ◌∷◌, ◌++◌, map, length, Some, ◌∙◌, refl, sym, subst, ap, arith, length-append}
 use Rattle.std.specs.Prelude.{◌==◌, slice_get}
 use Rattle.std.specs.List.{flat_map}
+use Rattle.std.proofs.Math.Nat.{mul_assoc}
 use Rattle.std.proofs.lemmas.Bool.{cases_eq, false≢true, and_parts}
 use Rattle.std.proofs.lemmas.Bool.Decides.{nat_tests}
 use Rattle.std.proofs.lemmas.List.{length-map}
@@ -23,6 +24,12 @@ length-value_lists values [] = refl
 length-value_lists values (p ∷ set) =
     length-flat_map_same (λ v. map (λ rest. v ∷ rest) (value_lists values set)) (ways values set) (values p)
     (λ v. length-map (value_lists values set) (λ rest. v ∷ rest) ∙ length-value_lists values set)
+
+-- the ways of some members and those of more
+pub ways_append : (values : ℕ → List ℕ) (xs ys : List ℕ) → ways values (xs ++ ys) ≡ ways values xs * ways values ys
+ways_append values [] ys = omega arith
+ways_append values (x ∷ xs) ys =
+    ap (λ n. length (values x) * n) (ways_append values xs ys) ∙ sym (mul_assoc (length (values x)) (ways values xs) (ways values ys))
 
 -- an item of one of two lists
 pub slice_get-append_left : {X : Type 0} (xs ys : List X) (i : ℕ) (y : X) → slice_get xs i ≡ Some y → slice_get (xs ++ ys) i ≡ Some y

@@ -1,19 +1,19 @@
 -- The values at a place.
-use Rattle.std.proofs.Common.{inl, inr, ◌≡◌, ℕ, zero, suc, ◌+◌, ◌*◌, ◌-◌, ◌/◌, ◌%◌, ◌^◌, ◌<◌, ◌≤◌, List, [], ◌∷◌, ◌++◌, map, take}
-use Rattle.std.proofs.Common.{drop, length, get_or, Some, sum_by, ◌∙◌, sym, subst, ap, arith, append_assoc}
+use Rattle.std.proofs.Common.{inl, inr, ◌≡◌, ℕ, zero, suc, ◌+◌, ◌*◌, ◌-◌, ◌/◌, ◌%◌, ◌^◌, ◌<◌, ◌≤◌, List, [], ◌∷◌, map, take}
+use Rattle.std.proofs.Common.{drop, length, get_or, Some, sum_by, ◌∙◌, refl, sym, subst, ap, arith}
 use Rattle.std.specs.Prelude.{slice_get, slice_set}
 use Rattle.std.specs.Option.{option_map}
 use Rattle.std.specs.List.{flat_map}
-use Rattle.std.proofs.lemmas.List.{at_drop_more, at_drop_all, take_more_set, take_all, append-nil, length-map, length-set}
+use Rattle.std.proofs.lemmas.List.{at_drop_more, at_drop_all, drop_all, drop-set, take_all, take_more, length-map, length-set}
 use Rattle.std.proofs.lemmas.List.Sums.{sum_by-cons}
 use Rattle.std.proofs.lemmas.Option.{slice_get-map, slice_get-get_or}
-use Rattle.std.proofs.Math.Nat.{mod-lt, div-add-mod, div-lt_iff_lt-mul, div-eq_of_lt, mod-eq_of_lt}
+use Rattle.std.proofs.Math.Nat.{mod-lt, div-add-mod, div-add-mod', div-lt_iff_lt-mul, div-eq_of_lt, mod-eq_of_lt}
 use Rattle.std.proofs.lemmas.Bool.{cases_lt}
 use Rattle.cov_model.specs.declared.slice.Slice.TheVariants.{Positive, Negative}
 use Rattle.tuple_index.specs.Plan.{PlanView}
 use Rattle.tuple_index.specs.Places.{values_in, negatives_of, value_lists, ways, negative_ways, negative_lists, tuple_lists, tuple_count}
 use Rattle.tuple_index.specs.believed.PlanFault.{saturated}
-use Rattle.tuple_index.proofs.PlaceLemmas.{length-value_lists, slice_get-pieces, slice_get-append_left, slice_get-append_right}
+use Rattle.tuple_index.proofs.PlaceLemmas.{length-value_lists, ways_append, slice_get-pieces, slice_get-append_left, slice_get-append_right}
 use Rattle.tuple_index.proofs.RankLemmas.{length_negative, length-negative_lists}
 
 -- a place, parted by a number of ways that is saturated up to the greatest of 64 bits
@@ -58,49 +58,89 @@ parts r len w each small within told_ways =
     some_of zero h = let none : 0 * w ≡ 0 = grind arith in absurd (omega (arith, h, none))
     some_of (suc len) h = omega arith
 
--- what is known of the values put so far: the places from i on hold the values of what is left of the place
-pub record PutSoFar (values : ℕ → List ℕ) (members into : List ℕ) (i rest place : ℕ) : Type 0 where
-  pub small : rest < 2 ^ 26
+-- what is known of the values put so far: those from i on are a choice at a place of their own, and what is left is the place of the values before
+pub record PutFrom (values : ℕ → List ℕ) (members into : List ℕ) (i rest place : ℕ) : Type 0 where
   pub room : length into ≡ length members
-  pub within : rest < ways values (drop i members)
-  pub holds : (tail : List ℕ) → slice_get (value_lists values (drop i members)) rest ≡ Some tail → slice_get (value_lists values members) place
-      ≡ Some (take i into ++ tail)
+  pub within : rest < ways values (take i members)
+  pub own : ℕ
+  pub whole : place ≡ rest * ways values (drop i members) + own
+  pub holds : slice_get (value_lists values (drop i members)) own ≡ Some (drop i into)
 
-pub left_within : (values : ℕ → List ℕ) (members into : List ℕ) (i rest place : ℕ) → PutSoFar values members into i rest place → i < length members
-    → rest < length (values (get_or members i 0)) * ways values (drop (i + 1) members)
-left_within values members into i rest place so_far more = subst (λ n. rest < n) (at_drop_more (ways values) members i 0 more) so_far.within
+pub put_first : (values : ℕ → List ℕ) (members into : List ℕ) (place : ℕ) → length into ≡ length members → place < ways values members
+    → PutFrom values members into (length members) place place
+put_first values members into place room within = record {
+  room = room;
+  within = subst (λ ms. place < ways values ms) (sym (take_all (length members) members (omega arith))) within;
+  own = 0;
+  whole = let one : ways values (drop (length members) members) ≡ 1 = at_drop_all (ways values) members (length members) (omega arith) in
+      rw one (omega arith);
+  holds = at_drop_all (λ ms. slice_get (value_lists values ms) 0) members (length members) (omega arith)
+      ∙ ap Some (sym (drop_all (length members) into (omega (arith, room))));
+}
 
-pub put_step : (values : ℕ → List ℕ) (members into : List ℕ) (i rest place each v : ℕ) → PutSoFar values members into i rest place → i < length members
-    → each ≡ saturated (ways values (drop (i + 1) members)) → slice_get (values (get_or members i 0)) (rest / each) ≡ Some v
-    → PutSoFar values members (slice_set into i v) (i + 1) (rest % each) place
-put_step values members into i rest place each v so_far more told_ways here =
-    let own = values (get_or members i 0) in
-    let w = ways values (drop (i + 1) members) in
-    let cut = parts rest (length own) w each so_far.small (left_within values members into i rest place so_far more) told_ways in
+-- one member more, from the last on: the place of its value, and what is left
+pub record Digit (values : ℕ → List ℕ) (members into : List ℕ) (i rest place count : ℕ) : Type 0 where
+  pub more : i < length members
+  pub so_far : PutFrom values members into (i + 1) rest place
+  pub some : 0 < count
+  pub inside : rest % count < length (values (get_or members i 0))
+  pub before : rest / count < ways values (take i members)
+
+pub digit_of : (values : ℕ → List ℕ) (members into : List ℕ) (next rest place count : ℕ) → PutFrom values members into next rest place → 0 < next
+    → next ≤ length members → count ≡ length (values (get_or members (next - 1) 0)) → Digit values members into (next - 1) rest place count
+digit_of values members into next rest place count invariant left listed counted =
+    let i = next - 1 in
+    let same : next ≡ i + 1 = omega (arith, left) in
+    let more : i < length members = omega (arith, left, listed) in
+    let so_far = subst (λ k. PutFrom values members into k rest place) same invariant in
+    let before = ways values (take i members) in
+    let opened : ways values (take (i + 1) members) ≡ before * count =
+    ap (ways values) (take_more members i 0 more) ∙ ways_append values (take i members) (get_or members i 0 ∷ [])
+    ∙ ap (λ n. before * (n * 1)) (sym counted) ∙ grind arith in
+    let within : rest < before * count = subst (λ n. rest < n) opened so_far.within in
+    let some : 0 < count = some_of before count within in
     record {
-      small = omega (arith, so_far.small, cut.whole);
+      more = more;
+      so_far = so_far;
+      some = some;
+      inside = subst (λ n. rest % count < n) counted (mod-lt rest some);
+      before = (div-lt_iff_lt-mul some).1 within;
+    }
+  where
+    some_of : (n count : ℕ) → rest < n * count → 0 < count
+    some_of n zero h = let none : n * 0 ≡ 0 = grind arith in absurd (omega (arith, h, none))
+    some_of n (suc count) h = omega arith
+
+pub put_step : (values : ℕ → List ℕ) (members into : List ℕ) (i rest place count v : ℕ) → Digit values members into i rest place count
+    → count ≡ length (values (get_or members i 0)) → slice_get (values (get_or members i 0)) (rest % count) ≡ Some v
+    → PutFrom values members (slice_set into i v) i (rest / count) place
+put_step values members into i rest place count v digit counted here =
+    let so_far = digit.so_far in
+    let w = ways values (drop (i + 1) members) in
+    let opened : ways values (drop i members) ≡ count * w =
+    at_drop_more (ways values) members i 0 digit.more ∙ ap (λ n. n * w) (sym counted) in
+    let split : rest ≡ rest / count * count + rest % count = sym (div-add-mod' rest count) in
+    let own = rest % count * w + so_far.own in
+    let gathered : rest / count * (count * w) + own ≡ (rest / count * count + rest % count) * w + so_far.own = grind arith in
+    record {
       room = length-set into i v ∙ so_far.room;
-      within = cut.rest;
-      holds = λ tail there.
-          let piece = slice_get-pieces (λ v. map (λ rest. v ∷ rest) (value_lists values (drop (i + 1) members))) w own (rest / each) (rest % each) rest v
-          (v ∷ tail)
-          (λ v. length-map (value_lists values (drop (i + 1) members)) (λ rest. v ∷ rest) ∙ length-value_lists values (drop (i + 1) members)) cut.whole here
-          (slice_get-map (λ rest. v ∷ rest) (value_lists values (drop (i + 1) members)) (rest % each) ∙ ap (option_map (λ rest. v ∷ rest)) there) in
-          let before = so_far.holds (v ∷ tail) (ap (λ ls. slice_get ls rest) (at_drop_more (value_lists values) members i 0 more) ∙ piece) in
-          let inside : i < length into = omega (arith, so_far.room, more) in
-          let longer : take (i + 1) (slice_set into i v) ++ tail ≡ take i into ++ (v ∷ tail) =
-          ap (λ xs. xs ++ tail) (take_more_set into i v inside) ∙ append_assoc (take i into) (v ∷ []) tail in
-          before ∙ ap Some (sym longer);
+      within = digit.before;
+      own = own;
+      whole = so_far.whole ∙ ap (λ r. r * w + so_far.own) split ∙ sym gathered ∙ sym (ap (λ n. rest / count * n + own) opened);
+      holds = at_drop_more (λ ms. slice_get (value_lists values ms) own) members i 0 digit.more
+          ∙ slice_get-pieces (λ v. map (λ rest. v ∷ rest) (value_lists values (drop (i + 1) members))) w (values (get_or members i 0)) (rest % count) so_far.own
+          own v (v ∷ drop (i + 1) into)
+          (λ v. length-map (value_lists values (drop (i + 1) members)) (λ rest. v ∷ rest) ∙ length-value_lists values (drop (i + 1) members)) refl here
+          (slice_get-map (λ rest. v ∷ rest) (value_lists values (drop (i + 1) members)) so_far.own ∙ ap (option_map (λ rest. v ∷ rest)) so_far.holds)
+          ∙ ap Some (sym (drop-set into i v (omega (arith, so_far.room, digit.more))));
     }
 
-pub put_end : (values : ℕ → List ℕ) (members into : List ℕ) (i rest place : ℕ) → PutSoFar values members into i rest place → length members ≤ i
+pub put_end : (values : ℕ → List ℕ) (members into : List ℕ) (rest place : ℕ) → PutFrom values members into 0 rest place
     → slice_get (value_lists values members) place ≡ Some into
-put_end values members into i rest place so_far past =
-    let one : rest < 1 = subst (λ n. rest < n) (at_drop_all (ways values) members i past) so_far.within in
-    let first : rest ≡ 0 = omega (arith, one) in
-    let there : slice_get (value_lists values (drop i members)) rest ≡ Some [] =
-    ap (λ ls. slice_get ls rest) (at_drop_all (value_lists values) members i past) ∙ ap (slice_get ([] ∷ [])) first in
-    so_far.holds [] there ∙ ap Some (append-nil (take i into) ∙ take_all i into (omega (arith, so_far.room, past)))
+put_end values members into rest place so_far =
+    let none : rest ≡ 0 = omega (arith, so_far.within) in
+    let own : place ≡ so_far.own = so_far.whole ∙ ap (λ r. r * ways values members + so_far.own) none ∙ omega arith in
+    ap (slice_get (value_lists values members)) own ∙ so_far.holds
 
 -- the tuple at a place among those with a negative value of a member
 pub negative_at : (plan : PlanView) (set : List ℕ) (q place each v : ℕ) → place < 2 ^ 26 → place < negative_ways plan set q

@@ -451,7 +451,8 @@ impl Plan {
         }
     }
 
-    // Puts the values of a choice of a slice.
+    // Puts the values of a choice of a slice, from the last member on: dividing by the number of a member's values
+    // leaves the place of the members before, so no numbers are multiplied.
     fn put_values(&self, members: &[ParamNo], slice: Slice, place: u64, into: &mut [ValueNo])
         requires exist { All (λ p. p < length self.now.positives) members.now }
         requires small { place < 2 ^ 26 }
@@ -460,10 +461,10 @@ impl Plan {
         ensures { slice_get (value_lists (values_in self.now slice) members.now) place ≡ Some into.new }
     {
         let mut rest = place;
-        for i in 0..members.len() {
-            let each = self.ways(&members[i + 1..], slice);
-            into[i] = self.value_at(members[i], slice, rest / each);
-            rest %= each;
+        for i in (0..members.len()).rev() {
+            let count = self.radix(members[i], slice);
+            into[i] = self.value_at(members[i], slice, rest % count);
+            rest /= count;
         }
     }
 }

@@ -5,3 +5,4 @@ pub mod CharLemmas
 pub mod LikeLemmas
 pub mod StringLemmas
 pub mod Laws
+pub mod ByteLemmas

@@ -12,13 +12,13 @@ use Rattle.ipog_grow.proofs.values.try_values.Goals as goal
 pub ask-requires : goal.ask-requires
 ask-requires c =
     let put = trying-put c.assert_invariant.ensures.context c.requires.column c.requires.order c.requires.listed c.requires.grows c.requires.free
-    c.loop-v.invariant.trying (sym c.best_value.ensures.best ∙ c.in-Some.is) c.in-Some.ensures.within c.loop-v.invariant.row c.set_cell.ensures in
+    c.loop-v.invariant.trying (sym c.best.ensures.best ∙ c.in-Some.is) c.in-Some.ensures.within c.loop-v.invariant.row c.set_cell.ensures in
     subst (λ (w : QuestionsView). Grows w c.set_cell.new.self) (sym c.loop-v.invariant.context) put.grows
 
 pub returns-in_err-ask-clause-asked : goal.returns-in_err-ask-clause-asked
 returns-in_err-ask-clause-asked c n all =
     let put = trying-put c.assert_invariant.ensures.context c.requires.column c.requires.order c.requires.listed c.requires.grows c.requires.free
-    c.loop-v.invariant.trying (sym c.best_value.ensures.best ∙ c.in-Some.is) c.in-Some.ensures.within c.loop-v.invariant.row c.set_cell.ensures in
+    c.loop-v.invariant.trying (sym c.best.ensures.best ∙ c.in-Some.is) c.in-Some.ensures.within c.loop-v.invariant.row c.set_cell.ensures in
     let p = err_from_is_err_and c.from_residual.result c.from_residual.ensures.1 in
     rw (p.1, p.2) (told-answer Bool (Option ℕ) c.in_err-ask.field-0.0 c.ask.new.self.question c.loop-v.invariant.context put.is
     (λ over. trying-spent put.next over n all)
@@ -32,7 +32,7 @@ put_here : (c : goal.Then-branch) → Put c.args.asker.now.context c.args.order.
     c.args.scores.now c.loop-v.scores
 put_here c =
     trying-put c.assert_invariant.ensures.context c.requires.column c.requires.order c.requires.listed c.requires.grows c.requires.free
-    c.loop-v.invariant.trying (sym c.best_value.ensures.best ∙ c.in-Some.is) c.in-Some.ensures.within c.loop-v.invariant.row c.set_cell.ensures
+    c.loop-v.invariant.trying (sym c.best.ensures.best ∙ c.in-Some.is) c.in-Some.ensures.within c.loop-v.invariant.row c.set_cell.ensures
 
 given : (c : goal.Then-branch) → Tried c.args.asker.now.context c.args.order.now c.args.column c.args.row.now
     (with_value c.args.row.now c.args.column c.in-Some.v) c.args.scores.now
@@ -62,13 +62,13 @@ returns-then-branch-clause-more c = (put_here c).more
 pub loop-v-smaller : goal.loop-v-smaller
 loop-v-smaller c =
     let put = trying-put c.assert_invariant.ensures.context c.requires.column c.requires.order c.requires.listed c.requires.grows c.requires.free
-    c.loop-v.invariant.trying (sym c.best_value.ensures.best ∙ c.in-Some.is) c.in-Some.ensures.within c.loop-v.invariant.row c.set_cell.ensures in
+    c.loop-v.invariant.trying (sym c.best.ensures.best ∙ c.in-Some.is) c.in-Some.ensures.within c.loop-v.invariant.row c.set_cell.ensures in
     trying-falls c.loop-v.scores c.in-Some.v c.in-Some.ensures.within put.next.some
 
 pub loop-v-preserved : goal.loop-v-preserved
 loop-v-preserved c =
     let put = trying-put c.assert_invariant.ensures.context c.requires.column c.requires.order c.requires.listed c.requires.grows c.requires.free
-    c.loop-v.invariant.trying (sym c.best_value.ensures.best ∙ c.in-Some.is) c.in-Some.ensures.within c.loop-v.invariant.row c.set_cell.ensures in
+    c.loop-v.invariant.trying (sym c.best.ensures.best ∙ c.in-Some.is) c.in-Some.ensures.within c.loop-v.invariant.row c.set_cell.ensures in
     let answer = answered c.loop-v.invariant.context put.is c.in_ok-ask.ensures.value c.in_ok-ask.ensures.asked in
     record {
       context = c.ask.ensures.same ∙ c.loop-v.invariant.context;
@@ -80,7 +80,7 @@ loop-v-preserved c =
 ended : (c : goal.In_default) → Tried c.args.asker.now.context c.args.order.now c.args.column c.args.row.now c.args.row.now c.args.scores.now
 ended c =
     trying-end c.loop-v.invariant.trying
-    (sym c.best_value.ensures.best ∙ c.in_default.is)
+    (sym c.best.ensures.best ∙ c.in_default.is)
 
 pub returns-clause-asked : goal.returns-clause-asked
 returns-clause-asked c = (ended c).asked

@@ -1,4 +1,4 @@
-use Rattle.refutation.proofs.ReadingLemmas.{first_byte}
+use Rattle.value_text.proofs.ByteLemmas.{first_byte}
 use Rattle.refutation.proofs.cutting.place_of.Goals as goal
 
 pub returns-in-None : goal.returns-in-None

@@ -31,4 +31,4 @@ returns c =
     block_adds m plan rows tests c.args.in_play.now.lines.items c.args.in_play.now.upto c.args.seat.now c.mark_negatives.new.seat c.mark_lines.new.seat c.requires.plan
     c.requires.in_play c.requires.all c.in_ok-columns.ensures.tests c.mark_negatives.ensures
     (subst (λ lines. Marks (λ place. is_of_some plan lines place && is_served_at m tests place) c.mark_negatives.new.seat c.mark_lines.new.seat) c.as_slice-lines.ensures.value
-    c.mark_lines.ensures)
+    c.in_ok-mark_lines.ensures)

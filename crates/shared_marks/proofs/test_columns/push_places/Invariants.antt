@@ -1,6 +1,6 @@
-use Rattle.std.proofs.Common.{map}
-use Rattle.shared_marks.proofs.ColumnLemmas.{ArePushed}
+use Rattle.std.proofs.Common.{◌≡◌, ◌++◌, map, take}
+use Rattle.shared_marks.specs.TestColumns.{digit_in}
 use Rattle.shared_marks.proofs.test_columns.push_places.Given as goal
 
-abbrev pub invariant-loop-p : goal.invariant-loop-p
-invariant-loop-p l = ArePushed (map (λ column. column.items) l.initial.columns.items) (map (λ column. column.items) l.columns.items) l.digits l.p
+abbrev pub invariant-loop-test : goal.invariant-loop-test
+invariant-loop-test l = l.column.items ≡ l.initial.column.items ++ map (digit_in l.model l.p) (take l.test-index (map (λ row. row.now) l.tests))

@@ -1,11 +1,29 @@
-use Rattle.std.proofs.Common.{◌≡◌, ℕ, List, sym, subst}
+use Rattle.std.proofs.Common.{◌≡◌, ◌∙◌, ℕ, List, sym, ap, subst}
+use Rattle.cov_model.specs.Fits.{FitsModel}
 use Rattle.definitions.specs.believed.Completion.{is_extendable}
+use Rattle.definitions.specs.believed.Search.{constrained_params, visit}
 use Rattle.definitions.specs.SliceRows.{IsOfSlice}
 use Rattle.feasibility.specs.Solving.{SolverView}
 use Rattle.feasibility.specs.Tree.{IsListed}
-use Rattle.feasibility.proofs.Extendable.{is_listed}
+use Rattle.feasibility.proofs.Extendable.{is_listed, plain_search_is_exact}
 use Rattle.full_search.proofs.Rows.{found_extends}
 use Rattle.full_search.proofs.full.FullSearch.decide.Goals as goal
+
+pub found_at_once-requires-clause-fits : goal.found_at_once-requires-clause-fits
+found_at_once-requires-clause-fits c =
+    (subst (λ (view : SolverView). IsOfSlice view.model view.slice c.args.cells.now) (sym c.self.view_is) c.requires).fits
+
+pub found_at_once-requires-clause-node : goal.found_at_once-requires-clause-node
+found_at_once-requires-clause-node c = sym c.self.invariant.ready.fails ∙ c.if-not-fails.true
+
+pub returns-then-not-fails-in-Some-clause-answer : goal.returns-then-not-fails-in-Some-clause-answer
+returns-then-not-fails-in-Some-clause-answer c =
+    let s : SolverView = record { model = c.self.inside.tree.model; prefs = c.self.inside.prefs.now; slice = c.self.inside.slice } in
+    subst (λ (view : SolverView). c.in-Some.found ≡ is_extendable view.model view.slice c.args.cells.now) c.self.view_is
+    (c.in-Some.ensures.found
+    ∙ ap (λ (values : List (List ℕ)). (visit s.model values (constrained_params s.model) c.args.cells.now).found) c.self.invariant.tried
+    ∙ (plain_search_is_exact s.model s.prefs s.slice c.args.cells.now c.assert_invariant.ensures.sound c.self.invariant.orders c.self.invariant.slice
+    (subst (λ (view : SolverView). IsOfSlice view.model view.slice c.args.cells.now) (sym c.self.view_is) c.requires)).0)
 
 pub find_row-requires-clause-listed : goal.find_row-requires-clause-listed
 find_row-requires-clause-listed c =

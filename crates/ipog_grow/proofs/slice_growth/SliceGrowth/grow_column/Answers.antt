@@ -30,7 +30,7 @@ close_contained-requires-clause-in_play g c =
 
 pub grow_horizontally-requires-clause-scores : goal.grow_horizontally-requires-clause-scores
 grow_horizontally-requires-clause-scores g c _ _ =
-    ap length c.deref_mut.ensures.value ∙ c.in_ok-scores.ensures ∙ ap length c.of-order.ensures
+    ap length c.deref_mut.ensures.value ∙ c.in_ok-scores.ensures ∙ ap length c.of-values.ensures
     ∙ ap (λ orders. length (get_or orders c.args.column [])) c.requires.prefs
     ∙ order-long c.args.self.now.asker.context c.args.column c.assert_invariant.ensures.context c.requires.column
 
@@ -59,7 +59,7 @@ returns-in_err-grow_horizontally-clause-asked g c =
 
 pub grow_vertically-requires-clause-count : goal.grow_vertically-requires-clause-count
 grow_vertically-requires-clause-count g c =
-    ap length c.of-order.ensures ∙ ap (λ orders. length (get_or orders c.args.column [])) c.requires.prefs
+    ap length c.of-values.ensures ∙ ap (λ orders. length (get_or orders c.args.column [])) c.requires.prefs
     ∙ order-long c.args.self.now.asker.context c.args.column c.assert_invariant.ensures.context c.requires.column
     ∙ ap (λ (w : QuestionsView). length (param_at w.model.params c.args.column).values) (sym c.in_ok-grow_horizontally.ensures.same)
 

@@ -1,4 +1,4 @@
-use Rattle.std.proofs.Common.{◌<◌, length, ap, ◌∙◌, arith, refl}
+use Rattle.std.proofs.Common.{◌<◌, length, set, ap, ◌∙◌, arith}
 use Rattle.std.proofs.lemmas.List.{length-map, get_or_default}
 use Rattle.row_text.proofs.Turning.{turn_taken, seen_at}
 use Rattle.row_text.proofs.next_names.NextNames.take.Goals as goal
@@ -12,4 +12,4 @@ returns-clause-next c =
     omega (arith, ap length (seen_at (λ next. next.items) places c.args.self.now c.args.place list c.self.view_is inside c.index_mut.ensures.value)) in
     turn_taken (λ next. next.items) places c.args.self.now c.args.place c.args.value c.index_mut-next.result.now c.args.count list _
     c.self.view_is inside c.index_mut.ensures.value
-    (c.index_mut-next.ensures.value ∙ get_or_default list.items c.args.value c.index_mut-next.result.now 0 there) refl
+    (c.index_mut-next.ensures.value ∙ get_or_default list.items c.args.value c.index_mut-next.result.now 0 there) (ap (set list.items c.args.value) c.name_behind.ensures.value)
