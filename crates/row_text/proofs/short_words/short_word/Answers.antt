@@ -1,6 +1,4 @@
-use Rattle.std.proofs.Common.{◌<◌, ◌^◌, drop, arith}
-use Rattle.value_text.specs.believed.Texts.{folded}
-use Rattle.row_text.specs.Lookups.{word_of}
+use Rattle.std.proofs.Common.{arith}
 use Rattle.row_text.proofs.Words.{word_fits}
 use Rattle.row_text.proofs.short_words.short_word.Goals as goal
 
