@@ -1,4 +1,4 @@
-ghost use Rattle.std.specs.Prelude.{◌≡◌, [], ◌∷◌, ◌++◌, ◌<◌, ◌≤◌, ◌==◌, ℕ, List, if◌then◌else◌, map, find, count_by, length, nat_lt, All, IfOk, IfSome, OnOk};
+ghost use Rattle.std.specs.Prelude.{◌≡◌, [], ◌∷◌, ◌++◌, ◌<◌, ◌≤◌, ◌==◌, ℕ, List, Some, None, if◌then◌else◌, map, find, count_by, length, nat_lt, All, IfOk, IfSome, OnOk};
 ghost use Rattle.std.specs.List.{flat_map};
 ghost use Rattle.std.specs.Option.{option_map, option_or};
 ghost use Rattle.definitions.specs.believed.RowFile.{cells_of_line, named_param, row_of_line};
@@ -21,18 +21,6 @@ use value_text::NoMemory;
 /// The most rows of a row file.
 const MOST_ROWS: u64 = 1 << 20;
 
-/// How many lines there are.
-fn count_lines(mut lines: FilledLines<'_>) -> u64
-    ensures { result ≡ length lines.entry }
-{
-    lines.assert_invariant();
-    let mut count = 0;
-    while lines.take_line().is_some() {
-        count += 1;
-    }
-    count
-}
-
 /// How many tabs stand in a line.
 #[tactic(auto, using(crate::proofs::LineSteps::tabs_within))]
 fn tab_count(text: &[u8]) -> usize
@@ -50,16 +38,30 @@ fn cell_count(text: &[u8]) -> usize
     tab_count(text) + 1
 }
 
-/// The first line with more cells than the header has columns.
-fn first_wide(mut lines: FilledLines<'_>, columns: usize) -> Option<u32>
-    ensures { result ≡ option_map (λ line. line.0) (find (λ line. nat_lt columns (length (cells_of_line line.1))) lines.entry) }
+/// The number of a line that has more cells than the header has columns.
+fn wide_line(line: FilledLine<'_>, columns: usize) -> Option<u32>
+    ensures { result ≡ (if nat_lt columns (length (cells_of_line line.entry.text.now)) then Some line.entry.number else None) }
 {
-    while let Some(line) = lines.take_line() {
-        if cell_count(line.text) > columns {
-            return Some(line.number);
-        }
+    if cell_count(line.text) > columns {
+        Some(line.number)
+    } else {
+        None
     }
-    None
+}
+
+/// How many lines there are, and the first with more cells than the header has columns.
+fn count_lines(mut lines: FilledLines<'_>, columns: usize) -> (u64, Option<u32>)
+    ensures count { result.0 ≡ length lines.entry }
+    ensures wide { result.1 ≡ option_map (λ line. line.0) (find (λ line. nat_lt columns (length (cells_of_line line.1))) lines.entry) }
+{
+    lines.assert_invariant();
+    let mut count = 0;
+    let mut wide = None;
+    while let Some(line) = lines.take_line() {
+        count += 1;
+        wide = wide.or(wide_line(line, columns));
+    }
+    (count, wide)
 }
 
 /// Looks for too many lines under a header of so many columns, then for a line with too many cells.
@@ -72,11 +74,11 @@ pub(crate) fn check_lines(lines: &FilledLines<'_>, columns: usize) -> Result<(),
     ensures { (header : List (List ℕ)) → length header ≡ columns
         → Finds (option_or (count_fault (length lines.now)) (width_fault header lines.now)) result }
 {
-    let count = count_lines(lines.again());
+    let (count, wide) = count_lines(lines.again(), columns);
     if count > MOST_ROWS {
         return Err(RowsFault::TooManyRows(count));
     }
-    match first_wide(lines.again(), columns) {
+    match wide {
         Some(line) => Err(RowsFault::Width(line)),
         None => Ok(()),
     }
