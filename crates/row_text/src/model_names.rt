@@ -1,4 +1,4 @@
-ghost use Rattle.std.specs.Prelude.{◌≡◌, ◌<◌, ◌≤◌, ℕ, List, [], ◌∷◌, Some, None, if◌then◌else◌, length, position, slice_index_or, IfOk, OnOk};
+ghost use Rattle.std.specs.Prelude.{◌≡◌, ◌<◌, ◌≤◌, ℕ, List, [], ◌∷◌, Some, None, true, if◌then◌else◌, length, position, slice_index_or, IfOk, OnOk};
 ghost use Rattle.std.specs.Option.{option_or};
 ghost use Rattle.value_text.specs.believed.Texts.{folded};
 ghost use Rattle.cov_model.specs.believed.Sound.{IsSound, param_at};
@@ -46,14 +46,30 @@ fn fold_key(key: &mut Vec<u8>, fold: bool)
     }
 }
 
-/// Becomes a text as the case rule compares it.
-fn set_key(key: &mut Vec<u8>, text: &[u8], fold: bool) -> Result<(), NoMemory>
-    ensures { OnOk result (key.new.items ≡ folded fold text.now) }
+/// Becomes a text as it is compared where case doesn't count.
+fn set_key(key: &mut Vec<u8>, text: &[u8]) -> Result<(), NoMemory>
+    ensures { OnOk result (key.new.items ≡ folded true text.now) }
 {
     key.clear();
     key.extend_from_slice(text)?;
-    fold_key(key, fold);
+    fold_key(key, true);
     Ok(())
+}
+
+/// The number of a text under the case rule. The text is copied into the key only where case doesn't count.
+fn number_under(
+    texts: &TextNumbers,
+    key: &mut Vec<u8>,
+    text: &[u8],
+    fold: bool,
+) -> Result<Option<u16>, NoMemory>
+    ensures { IfOk result (λ number. number ≡ number_of texts.now (folded fold text.now)) }
+{
+    if !fold {
+        return Ok(texts.number(text));
+    }
+    set_key(key, text)?;
+    Ok(texts.number(key.as_slice()))
 }
 
 /// What stands before a printed name.
@@ -170,8 +186,8 @@ impl<'a> ModelNames<'a> {
         ensures named { IfOk result (λ param. param ≡ named_param self.old cell.now) }
         ensures same { self.new ≡ self.old }
     {
-        set_key(&mut self.key, cell, self.model.fold())?;
-        Ok(self.params.number(self.key.as_slice()))
+        let fold = self.model.fold();
+        number_under(&self.params, &mut self.key, cell, fold)
     }
 
     /// The value of a parameter of which a cell is a printed name.
@@ -185,7 +201,6 @@ impl<'a> ModelNames<'a> {
         if let Some(value) = texts.short_number(cell, fold) {
             return Ok(Some(value));
         }
-        set_key(&mut self.key, cell, fold)?;
-        Ok(texts.number(self.key.as_slice()))
+        number_under(texts, &mut self.key, cell, fold)
     }
 }

@@ -1,5 +1,5 @@
-use Rattle.std.proofs.Common.{sym, ◌∙◌, ap}
-use Rattle.row_text.specs.Lookups.{number_of}
+use Rattle.std.proofs.Common.{◌≡◌, sym, ◌∙◌, subst}
+use Rattle.std.specs.Prelude.{IfOk}
 use Rattle.row_text.proofs.NameSteps.{value_named}
 use Rattle.row_text.proofs.model_names.ModelNames.value.Goals as goal
 
@@ -11,6 +11,7 @@ returns-in-Some-clause-named c =
 
 pub returns-clause-named : goal.returns-clause-named
 returns-clause-named c =
-    c.number.ensures ∙ ap (number_of c.index-texts.result.now) (c.as_slice.ensures.value ∙ c.in_ok-set_key.ensures)
-    ∙ value_named c.self.inside.model.now c.args.self.now c.self.inside.params c.self.inside.values.items c.args.p c.args.cell.now c.index-texts.result.now
-    c.fold-fold.result c.self.invariant c.self.view_is c.requires c.index-texts.ensures c.fold-fold.ensures.value
+    subst (λ named. IfOk c.number_under.result (λ value. value ≡ named))
+    (value_named c.self.inside.model.now c.args.self.now c.self.inside.params c.self.inside.values.items c.args.p c.args.cell.now c.index-texts.result.now
+    c.fold-fold.result c.self.invariant c.self.view_is c.requires c.index-texts.ensures c.fold-fold.ensures.value)
+    c.number_under.ensures
