@@ -1,4 +1,4 @@
-ghost use Rattle.std.specs.Prelude.{◌≡◌, ◌+◌, ◌++◌, ◌≤◌, ℕ, List, [], Bool, true, false, length, codes, IfOk};
+ghost use Rattle.std.specs.Prelude.{◌≡◌, ◌+◌, ◌++◌, ◌<◌, ◌≤◌, ℕ, List, [], ◌∷◌, Bool, true, false, length, codes, IfOk};
 ghost use Rattle.outside_io.specs.Faults.{is_failed_write};
 ghost use Rattle.outside_io.specs.believed.Seen.{SinkSeen};
 ghost use Rattle.outside_io.specs.believed.Puts.{Puts};
@@ -74,6 +74,15 @@ impl OutBuffer {
         prove!(copied.is_ok());
     }
 
+    /// Holds a byte back, for which there is room.
+    fn keep_byte(&mut self, byte: u8)
+        requires { length self.old.held < 16384 }
+        ensures { self.new ≡ record { held = self.old.held ++ byte ∷ []; failed = self.old.failed } }
+    {
+        let pushed = self.bytes.push(byte);
+        prove!(pushed.is_ok());
+    }
+
     /// Puts what is held.
     fn flush<O: Sink>(&mut self, out: &mut O)
         requires { self.old.failed ≡ false }
@@ -110,6 +119,19 @@ impl OutBuffer {
         }
         self.flush(out);
         self.add_behind_nothing(bytes, out)
+    }
+
+    /// Writes a byte, which takes less than a call of `add`.
+    pub(crate) fn add_byte<O: Sink>(&mut self, byte: u8, out: &mut O)
+        ensures { Adds self.old (O.seen out.old) self.new (O.seen out.new) (byte ∷ []) }
+    {
+        if self.faulty {
+            return;
+        }
+        if self.bytes.len() < ROOM {
+            return self.keep_byte(byte);
+        }
+        self.add(&[byte], out)
     }
 
     /// Puts what is held, and tells whether all of the text was put.

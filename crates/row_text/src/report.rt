@@ -19,7 +19,7 @@ fn put_separator<O: Sink>(place: usize, buffer: &mut OutBuffer, out: &mut O)
     ensures { Adds buffer.old (O.seen out.old) buffer.new (O.seen out.new) (separator place) }
 {
     if place > 0 {
-        buffer.add(b"\t", out);
+        buffer.add_byte(b'\t', out);
     }
 }
 
@@ -31,7 +31,7 @@ fn put_header<O: Sink>(model: &TestModel, buffer: &mut OutBuffer, out: &mut O)
         put_separator(place, buffer, out);
         buffer.add(param.name.as_str().as_bytes(), out);
     }
-    buffer.add(b"\n", out);
+    buffer.add_byte(b'\n', out);
 }
 
 /// The number of the value that a row gives a parameter.
@@ -63,7 +63,7 @@ fn put_mark<O: Sink>(mark: u8, negative: bool, buffer: &mut OutBuffer, out: &mut
     ensures { Adds buffer.old (O.seen out.old) buffer.new (O.seen out.new) (if negative then mark ∷ [] else []) }
 {
     if negative {
-        buffer.add(&[mark], out);
+        buffer.add_byte(mark, out);
     }
 }
 
@@ -110,7 +110,7 @@ fn put_row<O: Sink>(model: &TestModel, rows: &Rows, at: usize, turns: &mut Turns
         put_separator(place, &mut turns.buffer, out);
         put_cell(model, rows, at, place, turns, out);
     }
-    turns.buffer.add(b"\n", out);
+    turns.buffer.add_byte(b'\n', out);
 }
 
 /// Writes the lines of all rows.

@@ -36,7 +36,7 @@ returns-clause-text g c =
     let cells = map text (param_numbers c.args.model.now) in
     let past : length cells ≤ c.loop-place.place = omega
     (arith, length-map-range_with_len text 0 (length c.args.model.now.params), ap length c.params.ensures.value) in
-    Adds-same (ap (λ parts. join_with_byte 9 parts ++ 10 ∷ []) (take_all c.loop-place.place cells past)) (Adds-then c.loop-place.invariant.text c.add.ensures)
+    Adds-same (ap (λ parts. join_with_byte 9 parts ++ 10 ∷ []) (take_all c.loop-place.place cells past)) (Adds-then c.loop-place.invariant.text c.add_byte.ensures)
 
 pub returns-clause-next : goal.returns-clause-next
 returns-clause-next g c = λ p inside. c.loop-place.invariant.written p (omega (arith, inside, ap length c.params.ensures.value))
