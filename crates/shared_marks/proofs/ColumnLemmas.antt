@@ -1,13 +1,13 @@
 -- Tests that are marked together, and the places that their values make.
 use Rattle.std.proofs.Common.{inl, inr, ◌≡◌, ℕ, ◌+◌, ◌*◌, ◌^◌, ◌<◌, ◌≤◌, Bool, true, false, ◌&&◌, ◌||◌, not, cond}
-use Rattle.std.proofs.Common.{append_assoc, take, List, [], ◌∷◌, ◌++◌, map, replicate, length, get_or, set, Vec, Global, All, Option, Some, None, ◌∙◌, ◌≢◌, refl, sym, ap, subst, arith}
+use Rattle.std.proofs.Common.{append_assoc, take, List, [], ◌∷◌, ◌++◌, map, replicate, length, get_or, set, Bor, Vec, Global, All, Option, Some, None, ◌∙◌, ◌≢◌, refl, sym, ap, subst, arith}
 use Rattle.std.specs.Prelude.{slice_get}
 use Rattle.std.specs.List.{filter, list_any}
 use Rattle.std.specs.Option.{option_map_or}
 use Rattle.std.proofs.Math.Bool.{or-false}
 use Rattle.std.proofs.lemmas.Bool.{and_parts, cases_eq, false≢true}
 use Rattle.std.proofs.lemmas.List.{get_or-map, get_or-replicate, get_or-set_other, get_or-set_same, get_or_default, length-map, length-replicate, length-set, map-append, map-set, same_lists, take_more}
-use Rattle.std.proofs.lemmas.List.Elements.{All-get_or, All-nil, All-push}
+use Rattle.std.proofs.lemmas.List.Elements.{All-get_or}
 use Rattle.value_text.proofs.ListLemmas.{or_or}
 use Rattle.cov_model.specs.declared.slice.Slice.{Slice}
 use Rattle.cov_model.specs.declared.slice.Slice.TheVariants.{Positive, Negative}
@@ -19,9 +19,8 @@ use Rattle.definitions.specs.believed.Demand.{demanded_tuples}
 use Rattle.definitions.specs.believed.Figures.{is_served, tests_of}
 use Rattle.tuple_index.specs.Places.{values_in, ways}
 use Rattle.tuple_index.specs.Plan.{plan_of}
-use Rattle.shared_marks.specs.declared.digits.Digit.{Digit}
 use Rattle.shared_marks.specs.TestColumns.{ColumnsView, AreColumns, ArePlain, digit_in, is_plain, is_positive, place_in}
-use Rattle.shared_marks.specs.Digits.{AreDigits, IsPlacing, own_slice}
+use Rattle.shared_marks.specs.Digits.{IsPlacing, own_slice}
 use Rattle.shared_marks.specs.Served.{is_served_at}
 use Rattle.shared_marks.proofs.DigitLemmas.{IsJoined, joined, placing_end, positives_listed}
 
@@ -46,6 +45,13 @@ plain_test m row is =
 
 pub plain_at : (m : ModelView) (tests : List (List (Option ℕ))) (at : ℕ) → ArePlain m tests → at < length tests → PlainTest m (get_or tests at [])
 plain_at m tests at plain within = plain_test m (get_or tests at []) (All-get_or (λ row. is_plain m row ≡ true) tests at [] within plain)
+
+-- such a test by its reference
+pub test_at : (m : ModelView) (tests : List (Bor (List (Option ℕ)))) (i : ℕ) (test : Bor (List (Option ℕ))) → ArePlain m (map (λ (t : Bor (List (Option ℕ))). t.now) tests)
+    → i < length tests → test ≡ get_or tests i test → PlainTest m test.now
+test_at m tests i test plain within is =
+    let now = λ (t : Bor (List (Option ℕ))). t.now in
+    subst (PlainTest m) (get_or-map now tests i test [] within ∙ ap now (sym is)) (plain_at m (map now tests) i plain (omega (arith, within, length-map tests now)))
 
 pub plain_slice : (m : ModelView) (row : List (Option ℕ)) (p : ℕ) → PlainTest m row → p < length m.params → own_slice m row p ≡ positive_values m p
 plain_slice m row p is within = ap (λ s. values_in (plan_of m) s p) is.positive ∙ positives_listed m p within

@@ -1,12 +1,11 @@
 -- How many neighbouring places are marked, counted word by word.
-use Rattle.std.proofs.Common.{inl, inr, ◌≡◌, ◌≢◌, ℕ, zero, suc, ◌+◌, ◌*◌, ◌-◌, ◌/◌, ◌%◌, ◌^◌, ◌<◌, ◌≤◌, Bool, false, cond, List, [], ◌∷◌, ◌++◌, length, take, drop, get_or, ◌∙◌, refl, sym, ap, arith}
-use Rattle.std.specs.Int.{bit_at}
+use Rattle.std.proofs.Common.{inl, inr, ◌≡◌, ◌≢◌, ℕ, zero, suc, ◌+◌, ◌*◌, ◌-◌, ◌/◌, ◌%◌, ◌^◌, ◌<◌, ◌≤◌, Bool, false, cond, List, ◌++◌, length, take, drop, get_or, ◌∙◌, sym, ap, arith}
 use Rattle.std.specs.List.{count_by}
 use Rattle.std.specs.Prelude.{count_ones}
 use Rattle.std.proofs.lemmas.Bool.{cases_eq}
-use Rattle.std.proofs.lemmas.List.{at_drop_more, drop-drop, length-take}
+use Rattle.std.proofs.lemmas.List.{at_drop_more, drop-drop, drop-take, length-take, take-append-drop, take-take}
 use Rattle.std.proofs.lemmas.List.Sums.{count_by-le-length, sum_by-append, sum_by-cons}
-use Rattle.std.proofs.lemmas.Nat.{div-add-mod', ones_cat, ones_le_self, zero_from_ones}
+use Rattle.std.proofs.lemmas.Nat.{ones_cat, ones_le_self, zero_from_ones}
 use Rattle.std.proofs.lemmas.Nat.Bits.{bit_at-suc, bit_at-zero, bit_at_lowest, same_from_bits}
 use Rattle.bit_table.specs.Marks.{AreMarksFrom}
 
@@ -46,12 +45,9 @@ ones_counted (suc count) marks from word are within =
     omega (arith, cut, digit (word % 2) low, first, later, opened)
 
 take_both : {X : Type 0} (n k : ℕ) (xs : List X) → take (n + k) xs ≡ take n xs ++ take k (drop n xs)
-take_both zero k xs = let same : 0 + k ≡ k = omega arith in ap (λ n. take n xs) same
-take_both (suc n) k xs = let next : suc n + k ≡ suc (n + k) = omega arith in ap (λ m. take m xs) next ∙ opened xs
-  where
-    opened : (xs : List X) → take (suc (n + k)) xs ≡ take (suc n) xs ++ take k (drop (suc n) xs)
-    opened [] = none k
-    opened (x ∷ xs) = ap (λ more. x ∷ more) (take_both n k xs)
+take_both n k xs =
+    let whole = take-append-drop n (take (n + k) xs) in
+    sym (rw (take-take n (n + k) xs (omega arith), drop-take n k xs) at whole)
 
 -- one word more
 pub more_counted : (marks : List Bool) (from place near word marked : ℕ) → from ≤ place → place + near ≤ length marks → AreMarksFrom marks place near word

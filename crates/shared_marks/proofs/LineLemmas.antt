@@ -19,7 +19,7 @@ use Rattle.tuple_index.proofs.LoopLemmas.{rises_within}
 use Rattle.tuple_index.proofs.OrderLemmas.{demanded_rise}
 use Rattle.tuple_index.proofs.PlaceLemmas.{ways_append}
 use Rattle.shared_marks.specs.declared.open_sets.Line.{Line}
-use Rattle.shared_marks.specs.TestColumns.{ArePlain, AreRanks, digit_in, is_plain, place_in}
+use Rattle.shared_marks.specs.TestColumns.{ArePlain, AreRanks, digit_in, place_in}
 use Rattle.shared_marks.specs.Digits.{IsPlacing, own_slice}
 use Rattle.shared_marks.specs.OpenSets.{IsLine, front}
 use Rattle.shared_marks.specs.Adding.{are_behind}

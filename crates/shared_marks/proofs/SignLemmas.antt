@@ -1,5 +1,5 @@
 -- Models without a negative value.
-use Rattle.std.proofs.Common.{inl, inr, ◌≡◌, ℕ, zero, suc, ◌+◌, ◌<◌, ◌≤◌, Bool, true, false, ◌&&◌, not, cond, List, [], ◌∷◌, map, length, get_or, All, Option, ◌∙◌, refl, sym, ap, subst, arith, zero-add}
+use Rattle.std.proofs.Common.{inl, inr, ◌≡◌, ℕ, zero, suc, ◌+◌, ◌<◌, ◌≤◌, Bool, true, false, ◌&&◌, not, cond, List, [], ◌∷◌, map, length, get_or, All, Option, ◌∙◌, refl, ap, arith, zero-add}
 use Rattle.std.specs.List.{filter, range_with_len}
 use Rattle.std.proofs.lemmas.Bool.{cases_eq, false≢true}
 use Rattle.std.proofs.lemmas.List.Elements.{All-from_get_or, All-map}
@@ -11,7 +11,7 @@ use Rattle.cov_model.specs.believed.Meaning.{given_value, value_at}
 use Rattle.cov_model.specs.believed.Rows.{is_assigned, value_in}
 use Rattle.cov_model.specs.believed.Slices.{slice_by, slice_of}
 use Rattle.cov_model.specs.believed.Sound.{ModelView, param_at}
-use Rattle.cov_model.specs.believed.Valid.{negatives, param_numbers}
+use Rattle.cov_model.specs.believed.Valid.{param_numbers}
 use Rattle.definitions.proofs.Nothing.{nothing_kept}
 use Rattle.row_text.specs.declared.row_file.FileRow.{FileRow}
 use Rattle.shared_marks.specs.TestColumns.{HasNoNegative, is_positive}
@@ -21,14 +21,15 @@ use Rattle.shared_marks.proofs.PlaceLemmas.{none_served}
 -- where as many numbers pass as there are, each passes
 all_pass : (f : ℕ → Bool) (a n v : ℕ) → length (filter f (range_with_len a n)) ≡ n → a ≤ v → v < a + n → f v ≡ true
 all_pass f a zero v whole from below = absurd (omega (arith, from, below))
-all_pass f a (suc n) v whole from below = by_test (f a) refl whole
+all_pass f a (suc n) v whole from below = by_test (f a) refl whole (λ rest later. all_pass f (a + 1) n v rest later (omega (arith, below)))
   where
-    by_test : (b : Bool) → f a ≡ b → length (cond b (a ∷ filter f (range_with_len (a + 1) n)) (filter f (range_with_len (a + 1) n))) ≡ suc n → f v ≡ true
-    by_test true first whole = elim (cases_eq v a) [
+    by_test : (b : Bool) → f a ≡ b → length (cond b (a ∷ filter f (range_with_len (a + 1) n)) (filter f (range_with_len (a + 1) n))) ≡ suc n
+        → (length (filter f (range_with_len (a + 1) n)) ≡ n → a + 1 ≤ v → f v ≡ true) → f v ≡ true
+    by_test true first whole next = elim (cases_eq v a) [
       | inl same ↦ ap f same ∙ first
-      | inr apart ↦ all_pass f (a + 1) n v (omega (arith, whole)) (omega (arith, from, apart)) (omega (arith, below))
+      | inr apart ↦ next (omega (arith, whole)) (omega (arith, from, apart))
     ]
-    by_test false first whole = absurd (omega (arith, whole, length-filter-le f (range_with_len (a + 1) n), length-range_with_len (a + 1) n))
+    by_test false first whole next = absurd (omega (arith, whole, length-filter-le f (range_with_len (a + 1) n), length-range_with_len (a + 1) n))
 
 positive : (b : Bool) → not b ≡ true → b ≡ false
 positive true passes = absurd (false≢true passes)
