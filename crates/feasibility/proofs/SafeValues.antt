@@ -1,11 +1,11 @@
 -- Where each parameter that constraints name has a safe value, a search finds a completion unless a constraint is No, and
 -- doesn't go back.
 use Rattle.std.proofs.Common.{◌≡◌, ℕ, suc, ◌+◌, ◌<◌, ◌≤◌, Bool, true, false, not, ◌&&◌, List, [], ◌∷◌, map, take, length}
-use Rattle.std.proofs.Common.{Option, Some, None, is_some, get_or, All}
+use Rattle.std.proofs.Common.{Option, Some, is_some, get_or, All}
 use Rattle.std.proofs.Common.{◌⊎◌, ◌∙◌, sym, ap, subst, refl, arith, inl, inr}
-use Rattle.std.specs.List.{filter, list_any, sum_by}
+use Rattle.std.specs.List.{list_any, sum_by}
 use Rattle.std.proofs.lemmas.Bool.{false≢true, cases_Bool, false_from_ne_true, le-ltb, ltb-false, not-false, or_from, or_left, or_parts}
-use Rattle.std.proofs.lemmas.List.{get_or_default, length-set}
+use Rattle.std.proofs.lemmas.List.{length-set}
 use Rattle.std.proofs.lemmas.List.Elements.{All-map, All-more, All-nil, Contains-get_or}
 use Rattle.std.proofs.lemmas.List.FromFn.{length-map-range_with_len}
 use Rattle.std.proofs.lemmas.List.Sums.{sum_by-cons, sum_by_more}
@@ -15,12 +15,11 @@ use Rattle.cov_model.specs.believed.Rows.{is_assigned, with_value}
 use Rattle.cov_model.specs.believed.Valid.{param_numbers}
 use Rattle.definitions.specs.declared.effort.Effort.{Effort}
 use Rattle.definitions.specs.declared.effort.Effort.TheVariants.{Within, Full}
-use Rattle.definitions.specs.believed.Demand.{is_among}
 use Rattle.definitions.specs.believed.Search.{Outcome, breaks_a_rule, constrained_params, exceeds, is_failing, is_stuck, try_values, visit}
 use Rattle.definitions.proofs.Members.{Has, all_members, among_has, any_member, has_contained, has_filter, has_map, member_of_all, of_among, of_any, of_filter}
 use Rattle.definitions.proofs.SliceLemmas.{has_params, of_params}
 use Rattle.feasibility.specs.declared.constrained.Constrained.{Constrained}
-use Rattle.feasibility.specs.Live.{breaks_one, no_on, undecided_of}
+use Rattle.feasibility.specs.Live.{breaks_one, undecided_of}
 use Rattle.feasibility.specs.SafeValues.{AreSafe, HasSafeValue}
 use Rattle.feasibility.specs.Tree.{ListsValues, all_constrained, is_named, no_values, undecided, undecided_by}
 use Rattle.feasibility.proofs.Broken.{IsSettled, settled_by_value, settled_by_values, settled_no, told_by}
