@@ -1,10 +1,11 @@
 -- Where each parameter that constraints name has a safe value, a search finds a completion unless a constraint is No, and
 -- doesn't go back.
-use Rattle.std.proofs.Common.{◌≡◌, ℕ, suc, ◌+◌, ◌<◌, ◌≤◌, Bool, true, false, not, List, [], ◌∷◌, map, take, length, Option, Some, None, is_some, get_or, All}
+use Rattle.std.proofs.Common.{◌≡◌, ℕ, suc, ◌+◌, ◌<◌, ◌≤◌, Bool, true, false, not, ◌&&◌, List, [], ◌∷◌, map, take, length}
+use Rattle.std.proofs.Common.{Option, Some, is_some, get_or, All}
 use Rattle.std.proofs.Common.{◌⊎◌, ◌∙◌, sym, ap, subst, refl, arith, inl, inr}
-use Rattle.std.specs.List.{filter, list_any, sum_by}
+use Rattle.std.specs.List.{list_any, sum_by}
 use Rattle.std.proofs.lemmas.Bool.{false≢true, cases_Bool, false_from_ne_true, le-ltb, ltb-false, not-false, or_from, or_left, or_parts}
-use Rattle.std.proofs.lemmas.List.{get_or_default, length-set}
+use Rattle.std.proofs.lemmas.List.{length-set}
 use Rattle.std.proofs.lemmas.List.Elements.{All-map, All-more, All-nil, Contains-get_or}
 use Rattle.std.proofs.lemmas.List.FromFn.{length-map-range_with_len}
 use Rattle.std.proofs.lemmas.List.Sums.{sum_by-cons, sum_by_more}
@@ -14,12 +15,11 @@ use Rattle.cov_model.specs.believed.Rows.{is_assigned, with_value}
 use Rattle.cov_model.specs.believed.Valid.{param_numbers}
 use Rattle.definitions.specs.declared.effort.Effort.{Effort}
 use Rattle.definitions.specs.declared.effort.Effort.TheVariants.{Within, Full}
-use Rattle.definitions.specs.believed.Demand.{is_among}
 use Rattle.definitions.specs.believed.Search.{Outcome, breaks_a_rule, constrained_params, exceeds, is_failing, is_stuck, try_values, visit}
 use Rattle.definitions.proofs.Members.{Has, all_members, among_has, any_member, has_contained, has_filter, has_map, member_of_all, of_among, of_any, of_filter}
 use Rattle.definitions.proofs.SliceLemmas.{has_params, of_params}
 use Rattle.feasibility.specs.declared.constrained.Constrained.{Constrained}
-use Rattle.feasibility.specs.Live.{breaks_one, no_on, undecided_of}
+use Rattle.feasibility.specs.Live.{breaks_one, undecided_of}
 use Rattle.feasibility.specs.SafeValues.{AreSafe, HasSafeValue}
 use Rattle.feasibility.specs.Tree.{ListsValues, all_constrained, is_named, no_values, undecided, undecided_by}
 use Rattle.feasibility.proofs.Broken.{IsSettled, settled_by_value, settled_by_values, settled_no, told_by}
@@ -139,20 +139,20 @@ tries : (visited : List (Option ℕ) → Outcome) (cells : List (Option ℕ)) (p
     → ((w : ℕ) → (visited (with_value cells p w) ≡ record { found = false; cost = 1 }) ⊎ Finds (visited (with_value cells p w)) (suc most))
     → Finds (try_values visited cells p values) (length values + most)
 tries visited cells p most [] v has is each = absurd has
-tries visited cells p most (w ∷ values) v has is each = by_case (each w) has
+tries visited cells p most (w ∷ values) v has is each = by_case (λ later. tries visited cells p most values v later is each) (each w) has
   where
-    by_case : (visited (with_value cells p w) ≡ record { found = false; cost = 1 }) ⊎ Finds (visited (with_value cells p w)) (suc most)
+    by_case : (Has values v → Finds (try_values visited cells p values) (length values + most))
+        → (visited (with_value cells p w) ≡ record { found = false; cost = 1 }) ⊎ Finds (visited (with_value cells p w)) (suc most)
         → Has (w ∷ values) v → Finds (try_values visited cells p (w ∷ values)) (length (w ∷ values) + most)
-    by_case (inl fails) (inl same) =
+    by_case rest (inl fails) (inl same) =
         absurd (false≢true (sym (ap (λ (outcome : Outcome). outcome.found) fails) ∙ ap (λ (u : ℕ). (visited (with_value cells p u)).found) same ∙ is))
-    by_case (inl fails) (inr later) =
+    by_case rest (inl fails) (inr later) =
         let one = first visited (λ row. row) cells p w values false (ap (λ (outcome : Outcome). outcome.found) fails) in
-        let rest = tries visited cells p most values v later is each in
         record {
-          found = one.found ∙ rest.found;
-          few = omega (arith, one.cost, ap (λ (outcome : Outcome). outcome.cost) fails, rest.few);
+          found = one.found ∙ (rest later).found;
+          few = omega (arith, one.cost, ap (λ (outcome : Outcome). outcome.cost) fails, (rest later).few);
         }
-    by_case (inr finds) has =
+    by_case rest (inr finds) has =
         let one = first visited (λ row. row) cells p w values true finds.found in
         record { found = one.found; few = omega (arith, one.cost, finds.few) }
 
@@ -169,7 +169,30 @@ finds m lists [] cells sound each exist long whole = record {
   few = omega arith;
 }
 finds m lists (p ∷ params) cells sound each exist long whole =
-    elim (cases_Bool (is_assigned cells p)) [
+    of_below (λ row same unbroken. finds m lists params row sound each (λ q has. exist q (inr has)) same unbroken)
+  where
+    Below : Type 0
+    Below = (row : List (Option ℕ)) → length row ≡ length m.params → breaks_a_rule m row ≡ false
+        → Finds (visit m lists params row) (suc (value_sum m lists params))
+
+    more : value_sum m lists (p ∷ params) ≡ length (get_or lists p []) + value_sum m lists params
+    more = sum_by-cons (λ (named : Constrained). length (get_or lists named.param [])) (undecided_by m p) (map (undecided_by m) params)
+
+    with_live : Below → (w : ℕ) → breaks_a_rule m (with_value cells p w) ≡ false
+        → Finds (visit m lists params (with_value cells p w)) (suc (value_sum m lists params))
+    with_live below w unbroken = below (with_value cells p w) (length-set cells p (Some w) ∙ long) unbroken
+
+    by_value : Below → (w : ℕ) → (visit m lists params (with_value cells p w) ≡ record { found = false; cost = 1 })
+        ⊎ Finds (visit m lists params (with_value cells p w)) (suc (value_sum m lists params))
+    by_value below w = elim (cases_Bool (breaks_a_rule m (with_value cells p w))) [
+      | inl broken ↦
+          inl (failing_outcome m lists params (with_value cells p w)
+          (or_left (breaks_a_rule m (with_value cells p w)) (list_any (is_stuck m lists (with_value cells p w)) (param_numbers m)) broken))
+      | inr unbroken ↦ inr (with_live below w unbroken)
+    ]
+
+    of_below : Below → Finds (visit m lists (p ∷ params) cells) (suc (value_sum m lists (p ∷ params)))
+    of_below below = elim (cases_Bool (is_assigned cells p)) [
       | inl given ↦
           let rest = below cells long whole in
           subst (λ (outcome : Outcome). Finds outcome (suc (value_sum m lists (p ∷ params)))) (sym (visit_skip m lists (p ∷ params) 0 cells (omega arith) given))
@@ -178,30 +201,10 @@ finds m lists (p ∷ params) cells sound each exist long whole =
           let node = node_whole m lists cells sound each long whole in
           let one = each p (exist p (inl refl)) in
           let tried = tries (visit m lists params) cells p (value_sum m lists params) (get_or lists p []) one.value one.listed
-          (with_safe one.value (decided_keeps m cells p one.value sound long (exist p (inl refl)) one.decides whole)).found by_value in
+          (with_live below one.value (decided_keeps m cells p one.value sound long (exist p (inl refl)) one.decides whole)).found (by_value below) in
           subst (λ (outcome : Outcome). Finds outcome (suc (value_sum m lists (p ∷ params))))
           (sym (visit_node m lists (p ∷ params) 0 cells (omega arith) free node))
           (record { found = tried.found; few = omega (arith, tried.few, more) })
-    ]
-  where
-    more : value_sum m lists (p ∷ params) ≡ length (get_or lists p []) + value_sum m lists params
-    more = sum_by-cons (λ (named : Constrained). length (get_or lists named.param [])) (undecided_by m p) (map (undecided_by m) params)
-
-    below : (row : List (Option ℕ)) → length row ≡ length m.params → breaks_a_rule m row ≡ false
-        → Finds (visit m lists params row) (suc (value_sum m lists params))
-    below row same unbroken = finds m lists params row sound each (λ q has. exist q (inr has)) same unbroken
-
-    with_safe : (w : ℕ) → breaks_a_rule m (with_value cells p w) ≡ false
-        → Finds (visit m lists params (with_value cells p w)) (suc (value_sum m lists params))
-    with_safe w unbroken = below (with_value cells p w) (length-set cells p (Some w) ∙ long) unbroken
-
-    by_value : (w : ℕ) → (visit m lists params (with_value cells p w) ≡ record { found = false; cost = 1 })
-        ⊎ Finds (visit m lists params (with_value cells p w)) (suc (value_sum m lists params))
-    by_value w = elim (cases_Bool (breaks_a_rule m (with_value cells p w))) [
-      | inl broken ↦
-          inl (failing_outcome m lists params (with_value cells p w)
-          (or_left (breaks_a_rule m (with_value cells p w)) (list_any (is_stuck m lists (with_value cells p w)) (param_numbers m)) broken))
-      | inr unbroken ↦ inr (with_safe w unbroken)
     ]
 
 -- what a search of any row finds, and that it costs no more than this

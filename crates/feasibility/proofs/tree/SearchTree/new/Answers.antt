@@ -1,4 +1,4 @@
-use Rattle.std.proofs.Common.{◌∙◌, ◌<◌, ℕ, List, [], All, IfSome, length, get_or, sym, ap, subst}
+use Rattle.std.proofs.Common.{◌∙◌, ◌<◌, List, [], All, IfSome, length, get_or, sym, ap, subst}
 use Rattle.feasibility.specs.SafeValues.{AreSafe}
 use Rattle.feasibility.specs.Tree.{ListsValues, all_members}
 use Rattle.feasibility.specs.declared.constrained.Constrained.{Constrained}

@@ -1,5 +1,4 @@
 use Rattle.std.proofs.Common.{◌≡◌, ◌∙◌, ℕ, List, sym, ap, subst}
-use Rattle.cov_model.specs.Fits.{FitsModel}
 use Rattle.definitions.specs.believed.Completion.{is_extendable}
 use Rattle.definitions.specs.believed.Search.{constrained_params, visit}
 use Rattle.definitions.specs.SliceRows.{IsOfSlice}
