@@ -40,7 +40,7 @@ pub(crate) fn clear_bit(words: &mut Vec<u64>, place: usize) -> bool
 
 // Sets a bit.
 #[inline]
-fn set_bit(words: &mut [u64], place: usize)
+pub(crate) fn set_bit(words: &mut [u64], place: usize)
     requires { place < 64 * length words.old }
     ensures long { length words.new ≡ length words.old }
     ensures each { (k : ℕ) → bit_in words.new k ≡ (if k == place then 1 else bit_in words.old k) }
