@@ -155,6 +155,16 @@ clear-bit words place k was inside read =
           ]
     ]
 
+-- a bit that is not set needs no clearing
+pub clear-none : (words : List ℕ) (place k : ℕ) → bit_in words place ≡ 0 → bit_in words k ≡ (if k == place then 0 else bit_in words k)
+clear-none words place k none =
+    elim (cases_eq k place) [
+      | inl same ↦
+          let test : nat_eq k place ≡ true = grind (arith, nat_tests) in
+          ap (bit_in words) same ∙ none ∙ sym (ap (λ b. if b then 0 else bit_in words k) test)
+      | inr apart ↦ let test : nat_eq k place ≡ false = grind (arith, nat_tests) in sym (ap (λ b. if b then 0 else bit_in words k) test)
+    ]
+
 -- words without those at the end that have no bit
 pub bit-used : (words : List ℕ) (count k : ℕ) → count ≤ length words → ((i : ℕ) → count ≤ i → get_or words i 0 ≡ 0) → bit_in (take count words) k ≡ bit_in words k
 bit-used words count k within rest =

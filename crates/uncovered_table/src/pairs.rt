@@ -338,12 +338,14 @@ pub(crate) fn put_pair_counts(
 }
 
 // Clears the bit of the tuple of a set of two parameters that cells contain, with this digit in the column,
-// and its bit in the block of the digit.
+// and its bit in the block of the digit. The first bit of the set is the one at place `k`, and is read only
+// where the tuple is open.
 fn clear_pair(
     sets: &SliceSets<'_>,
     begins: &[u32],
     set: u32,
-    first: u32,
+    firsts: &[u32],
+    k: usize,
     p: ParamNo,
     cells: &[Option<ValueNo>],
     column: ParamNo,
@@ -353,7 +355,8 @@ fn clear_pair(
 )
     requires begins { AreBegins (digit_count sets.now.model sets.now.slice) (length sets.now.model.params) begins.now }
     requires partner { IsPartner sets.now.model sets.now.slice column set p }
-    requires first { first ≡ first_bit sets.now.model sets.now.slice set }
+    requires within { k < length firsts.now }
+    requires first { slice_index_or firsts.now k 0 ≡ first_bit sets.now.model sets.now.slice set }
     requires cells { IsOfSlice sets.now.model sets.now.slice cells.now }
     requires column { column < length sets.now.model.params }
     requires digit { digit < digit_count sets.now.model sets.now.slice column }
@@ -371,7 +374,7 @@ fn clear_pair(
         Some(other) => {
             let begin = begins[p as usize];
             if clear_bit(block, begin as usize + other as usize) {
-                bits.clear(sets.pair_bit(begins, set, first, column, digit, p, other));
+                bits.clear(sets.pair_bit(begins, set, firsts[k], column, digit, p, other));
             }
         }
         None => {}
@@ -411,7 +414,8 @@ fn clear_partners(
             sets,
             begins,
             demanded[k],
-            firsts[k],
+            firsts,
+            k,
             p,
             cells,
             column,

@@ -29,12 +29,12 @@ pub(crate) fn clear_bit(words: &mut Vec<u64>, place: usize) -> bool
     if at >= words.len() {
         return false;
     }
+    let bit = place % WORD_BITS;
     let word = words[at];
-    let left = word & !(1 << (place % WORD_BITS));
-    if left == word {
+    if (word >> bit) & 1 == 0 {
         return false;
     }
-    words[at] = left;
+    words[at] = word & !(1 << bit);
     true
 }
 
