@@ -11,7 +11,7 @@ use Rattle.std.proofs.lemmas.Nat.Bits.{bit_at_clear_other, bit_at_clear_same}
 use Rattle.std.specs.Int.{bit_not}
 use Rattle.std.proofs.lemmas.Bool.{cases_eq, cases_lt}
 use Rattle.std.proofs.lemmas.Bool.Decides.{nat_tests}
-use Rattle.std.proofs.lemmas.List.{get_or-set_same, get_or-set_other, get_or_past, get_or-take, length-set, length-take, set-set}
+use Rattle.std.proofs.lemmas.List.{get_or-set_same, get_or-set_other, get_or_past, get_or-take, length-take}
 use Rattle.uncovered_table.specs.Words.{bit_in, common, sum_to}
 
 pub sum-first : (f : ℕ → ℕ) (n : ℕ) → sum_to f (suc n) ≡ f 0 + sum_to (λ i. f (suc i)) n
@@ -130,21 +130,6 @@ set-bit words place k within =
           ]
     ]
 
--- the same of words with one that stands beside them
-pub set-open : (words : List ℕ) (place k at bits : ℕ) → place < 64 * length words → at ≡ place / 64
-    → bit_in (set words (place / 64) (bit_or bits (1 * 2 ^ (place % 64) % 2 ^ 64))) k ≡ (if k == place then 1 else bit_in (set words at bits) k)
-set-open words place k at bits within here =
-    let bit = 1 * 2 ^ (place % 64) % 2 ^ 64 in
-    let whole = set words at bits in
-    let inside : at < length words = omega (arith, here, within) in
-    let room : place < 64 * length whole = omega (arith, within, length-set words at bits) in
-    let read : get_or whole (place / 64) 0 ≡ bits = ap (λ i. get_or whole i 0) (sym here) ∙ get_or-set_same words at bits 0 inside in
-    ap (λ i. bit_in (set words i (bit_or bits bit)) k) (sym here)
-    ∙ ap (λ list. bit_in list k) (sym (set-set words at bits (bit_or bits bit)))
-    ∙ ap (λ i. bit_in (set whole i (bit_or bits bit)) k) here
-    ∙ ap (λ w. bit_in (set whole (place / 64) (bit_or w bit)) k) (sym read)
-    ∙ set-bit whole place k room
-
 -- a bit that is cleared, and the others
 pub clear-bit : (words : List ℕ) (place k was : ℕ) → place / 64 < length words → was ≡ get_or words (place / 64) 0
     → bit_in (set words (place / 64) (bit_and was (bit_not w64 (1 * 2 ^ (place % 64) % 2 ^ 64)))) k ≡ (if k == place then 0 else bit_in words k)
@@ -168,6 +153,16 @@ clear-bit words place k was inside read =
                 ap (λ w. bit_at w (k % 64)) (get_or-set_other words (place / 64) (k / 64) word 0 elsewhere)
                 ∙ sym (ap (λ b. if b then 0 else bit_in words k) test)
           ]
+    ]
+
+-- a bit that is not set needs no clearing
+pub clear-none : (words : List ℕ) (place k : ℕ) → bit_in words place ≡ 0 → bit_in words k ≡ (if k == place then 0 else bit_in words k)
+clear-none words place k none =
+    elim (cases_eq k place) [
+      | inl same ↦
+          let test : nat_eq k place ≡ true = grind (arith, nat_tests) in
+          ap (bit_in words) same ∙ none ∙ sym (ap (λ b. if b then 0 else bit_in words k) test)
+      | inr apart ↦ let test : nat_eq k place ≡ false = grind (arith, nat_tests) in sym (ap (λ b. if b then 0 else bit_in words k) test)
     ]
 
 -- words without those at the end that have no bit

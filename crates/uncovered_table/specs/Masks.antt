@@ -1,8 +1,7 @@
 -- Masks of digits: a bit for each digit of each parameter, in order.
 use Rattle.std.specs.List.{list_any}
-use Rattle.std.specs.Prelude.{◌≡◌, ℕ, zero, suc, ◌+◌, ◌-◌, ◌<◌, ◌≤◌, ◌==◌, List, length, min, Option, Some, None, slice_index_or, slice_set, if◌then◌else◌}
+use Rattle.std.specs.Prelude.{◌≡◌, ℕ, zero, suc, ◌+◌, ◌-◌, ◌<◌, ◌≤◌, ◌==◌, List, length, min, Option, Some, None, slice_index_or, if◌then◌else◌}
 use Rattle.definitions.specs.believed.Demand.{is_among}
-use Rattle.uncovered_table.specs.declared.mask_word.MaskWord.{MaskWord}
 use Rattle.uncovered_table.specs.Words.{bit_in}
 
 -- where the bits of a parameter begin, by how many digits each has
@@ -23,10 +22,6 @@ bit_for (Some d) bit = bit d
 -- the digits of some parameters alone
 abbrev pub restricted : List ℕ → (ℕ → Option ℕ) → ℕ → Option ℕ
 restricted params digits p = if is_among params p then digits p else None
-
--- a mask with the word that stands beside it
-abbrev pub with_word : List ℕ → MaskWord → List ℕ
-with_word mask word = slice_set mask word.at word.bits
 
 -- the mask of the digits of the first parameters
 pub record IsMask (count : ℕ → ℕ) (digits : ℕ → Option ℕ) (params : ℕ) (mask : ℕ → ℕ) : Type 0 where

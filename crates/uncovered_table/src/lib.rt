@@ -9,7 +9,6 @@ mod block;
 mod counts;
 mod held;
 mod lanes;
-mod mask_word;
 mod next;
 mod pairs;
 mod part;

@@ -4,7 +4,7 @@ ghost use Rattle.definitions.specs.SliceRows.{IsOfSlice};
 ghost use Rattle.uncovered_table.specs.Bits.{InPlay, all_cleared, cleared, first_bit, held_bit, sets_in_play, value_held};
 ghost use Rattle.uncovered_table.specs.Digits.{cell_digit, own_values, with_digit};
 ghost use Rattle.definitions.specs.believed.Demand.{demanded_sets};
-ghost use Rattle.uncovered_table.specs.Masks.{AreAll, AreBegins, AreWithout, IsCleared, IsMask, begin_at, restricted, with_word};
+ghost use Rattle.uncovered_table.specs.Masks.{AreAll, AreBegins, AreWithout, IsCleared, IsMask, begin_at, restricted};
 ghost use Rattle.uncovered_table.specs.Pairs.{AreKept, ArePartners, HasPairs, IsBlockPair, IsOtherMember, IsPartner, Matched, common_count, digit_count};
 ghost use Rattle.uncovered_table.specs.Places.{slice_places};
 ghost use Rattle.uncovered_table.specs.Prepared.{AreReady};
@@ -12,10 +12,9 @@ ghost use Rattle.uncovered_table.specs.Words.{bit_in};
 ghost use Rattle.tuple_index.specs.Places.{RisesFrom};
 
 use crate::held::{clear_held, from_value};
-use crate::mask_word::{MaskWord, with_bit};
 use crate::prepared::ColumnLines;
 use crate::sets::SliceSets;
-use crate::words::{WORD_BITS, clear_bit, count_common, set_bits, used};
+use crate::words::{WORD_BITS, clear_bit, count_common, set_bit, set_bits, used};
 use bit_table::BitTable;
 use cov_model::{Cells, ParamNo, ValueNo};
 use std::alloc::Global;
@@ -74,18 +73,14 @@ fn count_pairs(pairs: &PairBits, mask: &[u64], digit: Option<u16>) -> u32
 }
 
 // Sets the bit of a digit, where there is one.
-#[inline(always)]
-fn put_digit(mask: &mut [u64], word: MaskWord, begin: u32, digit: Option<u16>) -> MaskWord
-    requires word { word.at < length mask.old }
-    requires digit { IfSome digit (λ d. begin + d < 64 * length mask.old) }
-    ensures within { result.at < length mask.new }
+fn put_digit(mask: &mut [u64], begin: u32, digit: Option<u16>)
+    requires { IfSome digit (λ d. begin + d < 64 * length mask.old) }
     ensures long { length mask.new ≡ length mask.old }
-    ensures none { digit ≡ None → with_word mask.new result ≡ with_word mask.old word }
-    ensures some { (d : ℕ) → digit ≡ Some d → (k : ℕ) → bit_in (with_word mask.new result) k ≡ (if k == begin + d then 1 else bit_in (with_word mask.old word) k) }
+    ensures none { digit ≡ None → mask.new ≡ mask.old }
+    ensures some { (d : ℕ) → digit ≡ Some d → (k : ℕ) → bit_in mask.new k ≡ (if k == begin + d then 1 else bit_in mask.old k) }
 {
-    match digit {
-        Some(d) => with_bit(mask, word, begin as usize + d as usize),
-        None => word,
+    if let Some(d) = digit {
+        set_bit(mask, begin as usize + d as usize);
     }
 }
 
@@ -139,23 +134,17 @@ impl<'a> SliceSets<'a> {
         requires exist { All (λ p. p < length self.now.model.params) params.now }
         requires cells { IsOfSlice self.now.model self.now.slice cells.now }
         requires fits { begin_at (digit_count self.now.model self.now.slice) (length self.now.model.params) ≤ 64 * length mask.old }
-        requires some { 0 < length mask.old }
         requires none { (k : ℕ) → bit_in mask.old k ≡ 0 }
         ensures long { length mask.new ≡ length mask.old }
         ensures mask { IsMask (digit_count self.now.model self.now.slice)
             (restricted params.now (cell_digit (own_values self.now.model self.now.slice) cells.now)) (length self.now.model.params) (bit_in mask.new) }
     {
         self.assert_invariant();
-        let mut word = MaskWord {
-            at: 0,
-            bits: mask[0],
-        };
         for k in 0..params.len() {
             let p = params[k];
             let begin = begins[p as usize];
-            word = put_digit(mask, word, begin, self.digit_in(cells, p));
+            put_digit(mask, begin, self.digit_in(cells, p));
         }
-        mask[word.at] = word.bits;
     }
 
     // How many digits a parameter has.
@@ -349,12 +338,14 @@ pub(crate) fn put_pair_counts(
 }
 
 // Clears the bit of the tuple of a set of two parameters that cells contain, with this digit in the column,
-// and its bit in the block of the digit.
+// and its bit in the block of the digit. The first bit of the set is the one at place `k`, and is read only
+// where the tuple is open.
 fn clear_pair(
     sets: &SliceSets<'_>,
     begins: &[u32],
     set: u32,
-    first: u32,
+    firsts: &[u32],
+    k: usize,
     p: ParamNo,
     cells: &[Option<ValueNo>],
     column: ParamNo,
@@ -364,7 +355,8 @@ fn clear_pair(
 )
     requires begins { AreBegins (digit_count sets.now.model sets.now.slice) (length sets.now.model.params) begins.now }
     requires partner { IsPartner sets.now.model sets.now.slice column set p }
-    requires first { first ≡ first_bit sets.now.model sets.now.slice set }
+    requires within { k < length firsts.now }
+    requires first { slice_index_or firsts.now k 0 ≡ first_bit sets.now.model sets.now.slice set }
     requires cells { IsOfSlice sets.now.model sets.now.slice cells.now }
     requires column { column < length sets.now.model.params }
     requires digit { digit < digit_count sets.now.model sets.now.slice column }
@@ -382,7 +374,7 @@ fn clear_pair(
         Some(other) => {
             let begin = begins[p as usize];
             if clear_bit(block, begin as usize + other as usize) {
-                bits.clear(sets.pair_bit(begins, set, first, column, digit, p, other));
+                bits.clear(sets.pair_bit(begins, set, firsts[k], column, digit, p, other));
             }
         }
         None => {}
@@ -422,7 +414,8 @@ fn clear_partners(
             sets,
             begins,
             demanded[k],
-            firsts[k],
+            firsts,
+            k,
             p,
             cells,
             column,

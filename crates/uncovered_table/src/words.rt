@@ -29,18 +29,18 @@ pub(crate) fn clear_bit(words: &mut Vec<u64>, place: usize) -> bool
     if at >= words.len() {
         return false;
     }
+    let bit = place % WORD_BITS;
     let word = words[at];
-    let left = word & !(1 << (place % WORD_BITS));
-    if left == word {
+    if (word >> bit) & 1 == 0 {
         return false;
     }
-    words[at] = left;
+    words[at] = word & !(1 << bit);
     true
 }
 
 // Sets a bit.
 #[inline]
-fn set_bit(words: &mut [u64], place: usize)
+pub(crate) fn set_bit(words: &mut [u64], place: usize)
     requires { place < 64 * length words.old }
     ensures long { length words.new ≡ length words.old }
     ensures each { (k : ℕ) → bit_in words.new k ≡ (if k == place then 1 else bit_in words.old k) }
