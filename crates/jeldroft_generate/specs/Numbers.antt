@@ -1,5 +1,5 @@
 -- What is told of the numbers of fewer tests. (This project's rule.)
-use Rattle.std.specs.Prelude.{◌≡◌, ⊤, ℕ, List, length, Option, Some, None, IfSome, IsSomeAnd, Result, Ok, Err}
+use Rattle.std.specs.Prelude.{◌≡◌, ⊤, ℕ, List, length, Option, Some, None, IfSome, IsSomeAnd}
 use Rattle.outside_io.specs.believed.Seen.{SinkSeen}
 use Rattle.cov_model.specs.believed.Sound.{ModelView}
 use Rattle.jeldroft_args.specs.declared.shrinking.Shrinking.{Shrinking}

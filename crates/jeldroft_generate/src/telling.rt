@@ -40,12 +40,7 @@ fn strength_of(demand: &Demand) -> Option<u32> {
 
 impl Summary {
     /// What is said of tests, and of the combinations that no test can have.
-    pub(crate) fn of(
-        model: &TestModel,
-        plan: &Plan,
-        tests: &Tests,
-        omitted: &Omissions,
-    ) -> Summary
+    pub(crate) fn of(model: &TestModel, plan: &Plan, tests: &Tests, omitted: &Omissions) -> Summary
         ensures { result.fewer ≡ tests.now.fewer }
     {
         Summary {
