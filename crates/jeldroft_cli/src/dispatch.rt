@@ -27,7 +27,8 @@ pub(crate) fn dispatch<R: Threads + Sync, F: Folder, O: Sink, E: Sink>(
     terminal: bool,
 ) -> u8
     requires { IsInRange command.now }
-    ensures { Keeps command.now (moment (F.seen files.old) (O.seen out.old)) (moment (F.seen files.new) (O.seen out.new)) result }
+    ensures { Keeps command.now terminal (moment (F.seen files.old) (O.seen out.old)) (moment (F.seen files.new) (O.seen out.new))
+        (E.seen diag.new) result }
 {
     match command {
         Command::Generate(args) => run_generate(rt, alloc, args, files, out, diag, terminal),

@@ -41,10 +41,11 @@ pub fn run_jeldroft<R: Threads + Sync, F: Folder, O: Sink, E: Sink>(
     diag: &mut E,
     terminal: bool,
 ) -> u8
-    // The command that the words ask for does what its contract says, unless memory is refused before it begins.
+    // The command that the words ask for does what its contract says, unless memory is refused before it begins. Of what is
+    // told, `shrink` and `generate` promise the last line where fewer tests are asked for.
     ensures keeps { (asked : Asked) → settings_of commands (map string_bytes words.now) ≡ Some asked →
         IsUnbegun (moment (F.seen files.old) (O.seen out.old)) (moment (F.seen files.new) (O.seen out.new)) result
-        ⊎ Keeps asked (moment (F.seen files.old) (O.seen out.old)) (moment (F.seen files.new) (O.seen out.new)) result }
+        ⊎ Keeps asked terminal (moment (F.seen files.old) (O.seen out.old)) (moment (F.seen files.new) (O.seen out.new)) (E.seen diag.new) result }
 
     // Words that ask for nothing: no file changes, and with status 2 nothing is printed.
     ensures refused { settings_of commands (map string_bytes words.now) ≡ None →

@@ -4,3 +4,4 @@ pub mod Steps
 pub mod Since
 pub mod Runs
 pub mod Headline
+pub mod Told

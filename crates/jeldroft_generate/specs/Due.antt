@@ -7,9 +7,10 @@ use Rattle.jeldroft_args.specs.declared.generate.Generate.{Generate}
 use Rattle.jeldroft_files.specs.believed.Failures.{status_of}
 use Rattle.jeldroft_files.specs.declared.failure.Cause.{Cause}
 use Rattle.jeldroft_files.specs.declared.failure.Failure.{Failure}
-use Rattle.jeldroft_generate.specs.believed.Asked.{IsTable}
+use Rattle.jeldroft_generate.specs.believed.Asked.{IsTable, rows_of}
 use Rattle.jeldroft_generate.specs.declared.made.Made.{Made}
 use Rattle.jeldroft_generate.specs.believed.Due.{Start, IsProof}
+use Rattle.jeldroft_generate.specs.Numbers.{AreNumbersFor}
 
 -- ---- how steps end
 
@@ -18,9 +19,10 @@ abbrev pub Answers : {A B : Type 0} → (Result B Cause → Type 0) → (A → B
 Answers {A} {B} Calls Holds (Ok value) = (given : B) × Calls (Ok given) × Holds value given
 Answers {A} {B} Calls Holds (Err failure) = (status_of failure.cause ≡ 3) ⊎ Calls (Err failure.cause)
 
--- what was made is the table of the suite, and its proof where one is asked for
+-- what was made is the table of the suite, and its proof where one is asked for; and of fewer tests their numbers are kept
 pub record IsMadeOf (args : Generate) (made : Made) (start : Start) : Type 0 where
   pub sound : IsSound start.model
   pub within : limit_passed start.model ≡ None
   pub table : IsTable args start.model start.seeds made.table.items
   pub proof : IsProof args start made.proof.items
+  pub numbers : AreNumbersFor args.shrinking start.model (rows_of args start.model start.seeds) table.rows made.summary.fewer

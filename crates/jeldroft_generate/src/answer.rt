@@ -49,6 +49,7 @@ fn texts_of(
     requires { All (λ row. FitsModel model.now row) tests.now.rows }
     ensures table { IfOk result (λ made. made.table.items ≡ suite_text (form_of args.now.format) model.now tests.now.rows) }
     ensures proof { IfOk result (λ made. IfSome args.now.proof (λ _. made.proof.items ≡ written omitted.now.form omitted.now.omissions)) }
+    ensures numbers { IfOk result (λ made. made.summary.fewer ≡ tests.now.fewer) }
 {
     let table = suite_text(alloc, form_of(args.format), model, &tests.rows)?;
     let proof = proof_of(alloc, args, omitted)?;

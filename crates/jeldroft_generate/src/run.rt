@@ -1,9 +1,10 @@
-ghost use Rattle.std.specs.Prelude.{◌≡◌, ℕ};
+ghost use Rattle.std.specs.Prelude.{◌≡◌, ◌≢◌, ℕ, true, false, None};
 ghost use Rattle.jeldroft_files.specs.Runs.{end_status};
 ghost use Rattle.jeldroft_files.specs.believed.Runs.{moment};
 ghost use Rattle.jeldroft_generate.specs.believed.Due.{AreHeld, Held};
 ghost use Rattle.jeldroft_generate.specs.Runs.{AreInRange};
 ghost use Rattle.jeldroft_generate.specs.believed.Runs.{Covers, Generates, Leaves};
+ghost use Rattle.jeldroft_generate.specs.believed.Told.{SumsUp};
 
 use crate::answer::answer;
 use crate::notes::Notes;
@@ -31,8 +32,8 @@ fn status_of(end: &Result<Summary, Failure<'_>>) -> u8
 /// asked for, write of the proof file, write of the table to the output file or to `out`. All memory is taken before the
 /// first byte is written. Statuses: 0 where the table was written whole, 2 where the model or another file is refused, a
 /// limit is passed, or a question of the search costs more than the budget, 3 where memory, reading or writing failed. A
-/// reader of `out` that has gone away is no failure. What is told goes to `diag`, whose faults change nothing; the line
-/// that sums up only where `terminal` says that it is one.
+/// reader of `out` that has gone away is no failure. What is told goes to `diag`, whose faults change nothing; the lines
+/// that sum up only where `terminal` says that it is one.
 pub fn run_generate<R: Threads + Sync, F: Folder, O: Sink, E: Sink>(
     rt: &R,
     alloc: Global,
@@ -51,6 +52,12 @@ pub fn run_generate<R: Threads + Sync, F: Folder, O: Sink, E: Sink>(
     // same, in which each seed is contained that is in those. Premises: the folder tells what the files held that are read,
     // and the table and the proof go to two files.
     ensures headline { result ≡ 0 → Covers args.now (moment (F.seen files.old) (O.seen out.old)) (moment (F.seen files.new) (O.seen out.new)) }
+
+    // Where fewer tests are asked for, the last line that a terminal is told sums them up, unless silence is asked for: the
+    // number of tests that grow, of those in their place, and one below which no valid tests have this coverage. Premise:
+    // the folder tells what the files held that are read.
+    ensures told { result ≡ 0 → args.now.shrinking ≢ None → terminal ≡ true → args.now.quiet ≡ false → (held : Held) → AreHeld args.now (F.seen files.old).files held →
+        SumsUp args.now held (moment (F.seen files.old) (O.seen out.old)) (moment (F.seen files.new) (O.seen out.new)) (E.seen diag.new) }
 
     // What a run does, where the folder tells what the files hold that are read.
     ensures runs { (held : Held) → AreHeld args.now (F.seen files.old).files held → Generates args.now held

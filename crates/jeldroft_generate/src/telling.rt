@@ -1,19 +1,21 @@
 //! What a run tells on standard error.
-use crate::fewer::Fewer;
+ghost use Rattle.std.specs.Prelude.{◌≡◌, true, false, IfOk};
+ghost use Rattle.jeldroft_generate.specs.Numbers.{TellsNumbers};
+
 use crate::notes::Notes;
 use crate::tests::Tests;
 use cov_model::{Demand, TestModel};
 use itoa::Buffer;
 use jeldroft_args::Generate;
 use jeldroft_files::Failure;
-use jeldroft_words::tell_failure;
+use jeldroft_words::{FewerTests, tell_failure, tell_fewer};
 use outside_io::{Sink, put_pieces};
 use refutation::Omissions;
 use shared_marks::count_tuples;
 use std::alloc::Global;
 use tuple_index::Plan;
 
-/// What the line says that sums up.
+/// What the lines say that sum up.
 #[derive(Debug, Drop, Clone, Copy)]
 pub(crate) struct Summary {
     // How many tests there are.
@@ -23,8 +25,8 @@ pub(crate) struct Summary {
     // How many combinations of their values are demanded, and how many of them no test can have.
     combinations: u64,
     impossible: u64,
-    // Where the tests are in place of those that grew, what is told of that.
-    fewer: Option<Fewer>,
+    /// The numbers of the tests, where they are in place of those that grew.
+    pub fewer: Option<FewerTests>,
 }
 
 // How many parameters are combined, where no sub-model and no relation asks for more or fewer.
@@ -38,12 +40,9 @@ fn strength_of(demand: &Demand) -> Option<u32> {
 
 impl Summary {
     /// What is said of tests, and of the combinations that no test can have.
-    pub(crate) fn of(
-        model: &TestModel,
-        plan: &Plan,
-        tests: &Tests,
-        omitted: &Omissions,
-    ) -> Summary {
+    pub(crate) fn of(model: &TestModel, plan: &Plan, tests: &Tests, omitted: &Omissions) -> Summary
+        ensures { result.fewer ≡ tests.now.fewer }
+    {
         Summary {
             tests: tests.rows.len() as u64,
             strength: strength_of(model.demand()),
@@ -53,33 +52,9 @@ impl Summary {
         }
     }
 
-    // Writes how many tests were in place of these.
-    fn tell_grown<E: Sink>(&self, diag: &mut E) {
-        if let Some(fewer) = &self.fewer {
-            let _ = put_pieces(diag, &[" in place of "]);
-            put_number(fewer.grown, diag);
-        }
-    }
-
-    // Writes how many tests any suite with this coverage needs.
-    fn tell_least<E: Sink>(&self, diag: &mut E) {
-        match &self.fewer {
-            Some(fewer) if fewer.least == self.tests => {
-                let _ = put_pieces(diag, &["; no suite with this coverage is shorter"]);
-            }
-            Some(fewer) => {
-                let _ = put_pieces(diag, &["; at least "]);
-                put_number(fewer.least, diag);
-                let _ = put_pieces(diag, &[" are needed for this coverage"]);
-            }
-            None => {}
-        }
-    }
-
-    // Writes the line.
-    fn tell<E: Sink>(&self, diag: &mut E) {
+    // Writes how much the tests cover.
+    fn tell_coverage<E: Sink>(&self, diag: &mut E) {
         put_count(self.tests, " test", diag);
-        self.tell_grown(diag);
         let covers = if self.tests == 1 {
             " covers "
         } else {
@@ -98,8 +73,18 @@ impl Summary {
             put_number(self.impossible, diag);
             let _ = put_pieces(diag, &[" (--proof lists them)"]);
         }
-        self.tell_least(diag);
         let _ = put_pieces(diag, &["\n"]);
+    }
+
+    // Writes how much the tests cover, and behind it the line on fewer tests, where they are in place of those that grew.
+    fn tell<E: Sink>(&self, diag: &mut E)
+        ensures { TellsNumbers self.now.fewer (E.seen diag.new) }
+    {
+        self.tell_coverage(diag);
+        match self.fewer {
+            Some(fewer) => tell_fewer(fewer, diag),
+            None => {}
+        }
     }
 }
 
@@ -139,8 +124,18 @@ fn tell_warnings<E: Sink>(args: &Generate, notes: &Notes, diag: &mut E) {
     }
 }
 
-/// Tells what a run found: the warnings, unless they are left out; why there is no table; else, on a terminal, the line
-/// that sums up, unless it is left out.
+// Sums up, on a terminal, unless that is left out.
+fn sum_up<E: Sink>(summary: &Summary, args: &Generate, terminal: bool, diag: &mut E)
+    ensures { terminal ≡ true → args.now.quiet ≡ false → TellsNumbers summary.now.fewer (E.seen diag.new) }
+{
+    if args.quiet || !terminal {
+        return;
+    }
+    summary.tell(diag);
+}
+
+/// Tells what a run found: the warnings, unless they are left out; why there is no table; else, on a terminal, the lines
+/// that sum up, unless they are left out.
 pub(crate) fn tell<E: Sink>(
     alloc: Global,
     args: &Generate,
@@ -148,16 +143,14 @@ pub(crate) fn tell<E: Sink>(
     end: &Result<Summary, Failure<'_>>,
     terminal: bool,
     diag: &mut E,
-) {
+)
+    ensures { terminal ≡ true → args.now.quiet ≡ false → IfOk end.now (λ summary. TellsNumbers summary.fewer (E.seen diag.new)) }
+{
     if !args.no_warnings {
         tell_warnings(args, notes, diag);
     }
     match end {
-        Ok(summary) => {
-            if terminal && !args.quiet {
-                summary.tell(diag);
-            }
-        }
+        Ok(summary) => sum_up(summary, args, terminal, diag),
         Err(failure) => tell_failure(alloc, failure, diag),
     }
 }

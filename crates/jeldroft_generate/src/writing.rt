@@ -1,4 +1,4 @@
-ghost use Rattle.std.specs.Prelude.{◌≡◌, option_map};
+ghost use Rattle.std.specs.Prelude.{◌≡◌, option_map, IfOk, IsOkAnd};
 ghost use Rattle.jeldroft_files.specs.Runs.{end_status};
 ghost use Rattle.jeldroft_files.specs.believed.Runs.{moment};
 ghost use Rattle.jeldroft_generate.specs.believed.Asked.{proof_name};
@@ -54,8 +54,9 @@ pub(crate) fn finish<'n, F: Folder, O: Sink>(
     files: &mut F,
     out: &mut O,
 ) -> Result<Summary, Failure<'n>>
-    ensures { Finishes answer.entry (proof_name args.now) args.now.output
+    ensures finishes { Finishes answer.entry (proof_name args.now) args.now.output
         (moment (F.seen files.old) (O.seen out.old)) (moment (F.seen files.new) (O.seen out.new)) (end_status result) }
+    ensures same { IfOk result (λ summary. IsOkAnd answer.entry (λ made. made.summary ≡ summary)) }
 {
     match answer {
         Ok(made) => match write_made(args, &made, files, out) {

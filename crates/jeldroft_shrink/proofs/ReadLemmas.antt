@@ -1,6 +1,6 @@
 -- How the steps that read files answer.
 use Rattle.std.proofs.Common.{◌≡◌, ℕ, List, Option, Some, None, Result, Ok, Err, inl, inr, refl, sym, ap, subst, ◌∙◌}
-use Rattle.std.specs.Prelude.{◌⊎◌, IfErr, IfSome, IsErrAnd}
+use Rattle.std.specs.Prelude.{◌⊎◌, IfErr, IfOk, IfSome, IsErrAnd}
 use Rattle.cov_model.specs.believed.Sound.{ModelView}
 use Rattle.command_line.specs.declared.stop.Stop.{Stop}
 use Rattle.command_line.specs.declared.stop.Stop.TheVariants as stops
@@ -20,9 +20,9 @@ use Rattle.jeldroft_shrink.specs.declared.cause.ShrinkCause.TheVariants.{Files, 
 use Rattle.jeldroft_shrink.specs.declared.cause.ShrinkFailure.{ShrinkFailure}
 use Rattle.jeldroft_shrink.specs.believed.Causes.{status_of}
 use Rattle.jeldroft_shrink.specs.believed.Reading.{Lines, stops_by, tests_of}
-use Rattle.jeldroft_shrink.specs.believed.Runs.{AreRefused, bad_model, behind, HeldFiles, Holds, IsDue, IsDueIn, LackRows, too_large, bad_table, bad_seeds, Spells, form_of, given_of, seeds_of}
-use Rattle.jeldroft_shrink.specs.Steps.{IsCauseOf, IsLimitOf, answer_seen}
-use Rattle.jeldroft_shrink.specs.declared.answer.Answer.{Answer}
+use Rattle.jeldroft_shrink.specs.believed.Runs.{AreRefused, bad_model, behind, HeldFiles, Holds, IsDue, IsDueIn, IsShorterText, LackRows, too_large, bad_table, bad_seeds, Spells, form_of, given_of, seeds_of}
+use Rattle.jeldroft_shrink.specs.Steps.{HasTable, IsAnswered, IsCauseOf, IsLimitOf, answer_seen}
+use Rattle.jeldroft_shrink.specs.declared.answer.Table.{Table}
 
 -- what is told of a name
 pub then_told : {X : Type 0} (told : Option X) {P Q : X → Type 0} → ((x : X) → P x → Q x) → IfSome told P → IfSome told Q
@@ -82,6 +82,16 @@ lack_memory args files m (Err failure) is = λ held holds. inl (ap status_of is)
 
 -- ---- what files call for
 
+-- a table of the rows that they hold
+abbrev pub text_due : (args : Shrink) (held : HeldFiles) (form : RowForm) (m : ModelView) (table : Table) → HasTable args held form m table
+    → IsShorterText args held form m table.text.items
+text_due args held form m table has = record {
+  given = has.given;
+  seeds = has.seeds;
+  have = has.have;
+  is = (has.is.rows, has.is.shrunk, has.is.text);
+}
+
 pub due_from : (args : Shrink) (held : HeldFiles) (form : RowForm) (end : Result (List ℕ) ShrinkCause) → form_of args.format ≡ Some form
     → IsDueIn (Some form) args held end → IsDue args held end
 due_from args held form end formed due = subst (λ f. IsDueIn f args held end) (sym formed) due
@@ -117,19 +127,36 @@ module _ (args : Shrink) (held : HeldFiles) (form : RowForm) where
       → IsCalledFor status_of (IsDue args held) (Err (status_of cause))
   refused_called cause formed refused = inr (cause, due_from args held form (Err cause) formed refused, refl)
 
-  pub model_stops : (r : Result Answer ShrinkFailure) (failure : Failure) → form_of args.format ≡ Some form
+  pub model_stops : (r : Result Table ShrinkFailure) (failure : Failure) → form_of args.format ≡ Some form
       → IsErrAnd r (λ given. given.cause ≡ Files failure.cause) → StopsModel (opts_of args.model args.strength) held.model failure.cause
       → IsCalledFor status_of (IsDue args held) (answer_seen r)
-  model_stops (Ok answer) failure formed is stops = absurd is
+  model_stops (Ok table) failure formed is stops = absurd is
   model_stops (Err given) failure formed is (stop, because, why) = elim (stop_status stop) [
     | inl two ↦ refused_called given.cause formed (bad_model stop why two (is ∙ ap Files because))
     | inr three ↦ inl (ap status_of (is ∙ ap Files because) ∙ three)
   ]
 
-  pub suite_stops : (m : ModelView) (r : Result Answer ShrinkFailure) (failure : ShrinkFailure) → form_of args.format ≡ Some form → Spells args held m
-      → IsErrAnd r (λ given. given ≡ failure) → (status_of failure.cause ≡ 3) ⊎ LackRows args held m failure.cause
+  pub suite_called : (files : NamedFiles) (m : ModelView) (r : Result Table ShrinkFailure) → form_of args.format ≡ Some form → Spells args held m → Holds files args held
+      → IfOk r (λ table. (h : HeldFiles) → Holds files args h → HasTable args h form m table)
+      → IfErr r (λ failure. (h : HeldFiles) → Holds files args h → (status_of failure.cause ≡ 3) ⊎ LackRows args h m failure.cause)
       → IsCalledFor status_of (IsDue args held) (answer_seen r)
-  suite_stops m (Ok answer) failure formed spelled is why = absurd is
-  suite_stops m (Err given) failure formed spelled is (inl three) = inl (ap (λ (f : ShrinkFailure). status_of f.cause) is ∙ three)
-  suite_stops m (Err given) failure formed spelled is (inr lack) =
-      refused_called given.cause formed (behind m spelled (subst (LackRows args held m) (ap (λ (f : ShrinkFailure). f.cause) (sym is)) lack))
+  suite_called files m (Ok table) formed spelled holds has why =
+      due_from args held form (Ok table.text.items) formed (m, spelled, text_due args held form m table (has held holds))
+  suite_called files m (Err failure) formed spelled holds has why = elim (why held holds) [
+    | inl three ↦ inl three
+    | inr lack ↦ refused_called failure.cause formed (behind m spelled lack)
+  ]
+
+-- a table that was made of a model is one of the rows that the files hold
+pub suite_answered : (args : Shrink) (before after : FolderSeen) (form : RowForm) (m : ModelView) → form_of args.format ≡ Some form → KeepsFiles before after
+    → ((held : HeldFiles) → Holds before.files args held → Spells args held m) → (r : Result Table ShrinkFailure)
+    → IfOk r (λ table. (held : HeldFiles) → Holds after.files args held → HasTable args held form m table)
+    → IfOk r (λ table. (held : HeldFiles) → Holds before.files args held → IsAnswered args held table)
+suite_answered args before after form m formed keeps spells (Ok table) has = λ held holds. record {
+  form = form;
+  formed = formed;
+  m = m;
+  spelled = spells held holds;
+  has = has held (holds_after before after args held keeps holds);
+}
+suite_answered args before after form m formed keeps spells (Err failure) none = tt

@@ -27,7 +27,7 @@ use Rattle.jeldroft_files.proofs.Ending.{leaves, runs_as, written_since}
 use Rattle.jeldroft_files.proofs.Reading.{opts_fit}
 use Rattle.row_forms.specs.declared.row_form.RowForm.{RowForm}
 use Rattle.shared_marks.proofs.OwnTupleLemmas.{of_valid}
-use Rattle.shorter_suites.specs.Bounds.{least_needed}
+use Rattle.shorter_suites.specs.believed.Bounds.{least_needed}
 use Rattle.shorter_suites.specs.believed.Laws.{rows_of}
 use Rattle.shorter_suites.specs.believed.Shrinking.{IsShrunk, ServesToo}
 use Rattle.shorter_suites.proofs.Accepting.{accepted_stay}
@@ -35,19 +35,19 @@ use Rattle.shorter_suites.proofs.Counting.{none_is_shorter}
 use Rattle.suite_forms.specs.believed.Suites.{suite_text}
 use Rattle.suite_forms.proofs.Tabbed.{tsv-is-report}
 use Rattle.jeldroft_files.specs.believed.Tables.{is_comma}
+use Rattle.jeldroft_words.specs.believed.Sums.{TellsLast, sum_line}
 use Rattle.jeldroft_shrink.specs.declared.cause.ShrinkCause.{ShrinkCause}
 use Rattle.jeldroft_shrink.specs.declared.cause.ShrinkCause.TheVariants.{TooManyRows}
 use Rattle.jeldroft_shrink.specs.believed.Causes.{status_of}
 use Rattle.jeldroft_shrink.specs.believed.Reading.{Lines, first_flaw, given_flaw, lines_of, most_given, tests_of, unless_flawed}
 use Rattle.jeldroft_shrink.specs.believed.Runs.{HeldFiles, Holds, IsDue, IsDueIn, IsShorterText, Spells, WritesShorter, form_of}
 use Rattle.jeldroft_shrink.specs.believed.Shorter.{IsShorterTable}
-use Rattle.jeldroft_shrink.specs.Steps.{HasTable, IsAnswered, IsTableOf, answer_seen, end_status}
-use Rattle.jeldroft_shrink.specs.Told.{SumsUp, TellsLast, sum_line}
-use Rattle.jeldroft_shrink.specs.declared.answer.Answer.{Answer}
+use Rattle.jeldroft_shrink.specs.Steps.{IsAnswered, IsTableOf, answer_seen, end_status}
+use Rattle.jeldroft_shrink.specs.believed.Told.{SumsUp}
 use Rattle.jeldroft_shrink.specs.declared.answer.Table.{Table}
 use Rattle.jeldroft_shrink.specs.declared.cause.ShrinkFailure.{ShrinkFailure}
 use Rattle.jeldroft_shrink.proofs.DueOnce.{due_once}
-use Rattle.jeldroft_shrink.proofs.ReadLemmas.{ended}
+use Rattle.jeldroft_shrink.proofs.ReadLemmas.{ended, text_due}
 
 -- the rows of a file, with and without their lines
 pub rows_seen : (file : RowFile) → rows_of (seeds_seen file) ≡ suite_seen file
@@ -65,16 +65,6 @@ table_is form m seeds were rows table shrunk text tests count least lines same =
   tests = tests;
   were = count ∙ ap length same ∙ length-map lines (λ line. line.1);
   least = least ∙ ap (least_needed m) same;
-}
-
--- it is what the files call for
-abbrev pub text_due : (args : Shrink) (held : HeldFiles) (form : RowForm) (m : ModelView) (table : Table) → HasTable args held form m table
-    → IsShorterText args held form m table.text.items
-text_due args held form m table has = record {
-  given = has.given;
-  seeds = has.seeds;
-  have = has.have;
-  is = (has.is.rows, has.is.shrunk, has.is.text);
 }
 
 -- ---- how many rows are given
@@ -178,9 +168,9 @@ not_one (Err status) output before after given ends one = elim ends.1 [
 
 -- ---- what is told of it
 
-pub answered_at : (args : Shrink) (files : NamedFiles) (held : HeldFiles) → Holds files args held → (r : Result Answer ShrinkFailure)
-    → IfOk r (λ answer. (h : HeldFiles) → Holds files args h → IsAnswered args h answer.suite.table) → IfOk r (λ answer. IsAnswered args held answer.suite.table)
-answered_at args files held holds (Ok answer) are = are held holds
+pub answered_at : (args : Shrink) (files : NamedFiles) (held : HeldFiles) → Holds files args held → (r : Result Table ShrinkFailure)
+    → IfOk r (λ table. (h : HeldFiles) → Holds files args h → IsAnswered args h table) → IfOk r (λ table. IsAnswered args held table)
+answered_at args files held holds (Ok table) are = are held holds
 answered_at args files held holds (Err failure) none = tt
 
 stop_told : (cause : ShrinkCause) → status_of cause ≡ 0 → ⊥
@@ -191,11 +181,9 @@ stop_told cause zero = elim (ended cause) [
 
 module _ (args : Shrink) (marks : AreMarks args.model.marks) (strength : IsStrength args.strength) (held : HeldFiles) (folder read : FolderSeen) (out told : SinkSeen)
     (after : Moment) (output : Option (List ℕ)) (named : output ≡ args.output) where
-  sums_up : (answer : Answer) → IsAnswered args held answer.suite.table → Ends (Ok answer.suite.table.text.items) output (moment read out) after 0
-      → TellsLast (sum_line answer.suite.table.numbers.tests answer.suite.table.numbers.given answer.suite.table.numbers.least) told
-      → SumsUp args held (moment folder out) after told
-  sums_up answer answered ends told_last =
-      let table = answer.suite.table in
+  sums_up : (table : Table) → IsAnswered args held table → Ends (Ok table.text.items) output (moment read out) after 0
+      → TellsLast (sum_line table.numbers.tests table.numbers.given table.numbers.least) told → SumsUp args held (moment folder out) after told
+  sums_up table answered ends told_last =
       let has = answered.has in
       let written = subst (λ o. IsWritten o table.text.items (moment folder out) after) named
       (written_since output table.text.items folder read out after (ends.written refl)) in
@@ -205,14 +193,14 @@ module _ (args : Shrink) (marks : AreMarks args.model.marks) (strength : IsStren
         sums = subst (λ n. TellsLast (sum_line (length has.is.rows) (length has.given) n) told) has.is.least
             (subst (λ n. TellsLast (sum_line (length has.is.rows) n table.numbers.least) told) has.is.were
             (subst (λ n. TellsLast (sum_line n table.numbers.given table.numbers.least) told) has.is.tests told_last));
-        least = λ rows valid serves. none_is_shorter answered.m (rows_of has.given) rows valid serves;
+        least = none_is_shorter answered.m (rows_of has.given);
       }
 
-  pub told_sum : (answer end : Result Answer ShrinkFailure) (status : ℕ) → IfOk answer (λ given. IsAnswered args held given.suite.table)
+  pub told_sum : (answer end : Result Table ShrinkFailure) (status : ℕ) → IfOk answer (λ table. IsAnswered args held table)
       → Ends (answer_seen answer) output (moment read out) after (end_status end) → IfOk end (λ given. answer ≡ Ok given)
-      → IfOk end (λ given. TellsLast (sum_line given.suite.table.numbers.tests given.suite.table.numbers.given given.suite.table.numbers.least) told)
+      → IfOk end (λ given. TellsLast (sum_line given.numbers.tests given.numbers.given given.numbers.least) told)
       → status ≡ end_status end → status ≡ 0 → SumsUp args held (moment folder out) after told
   told_sum answer (Err failure) status answered ends same last is zero = absurd (stop_told failure.cause (sym is ∙ zero))
   told_sum answer (Ok given) status answered ends same last is zero =
-      sums_up given (subst (λ r. IfOk r (λ one. IsAnswered args held one.suite.table)) same answered)
+      sums_up given (subst (λ r. IfOk r (λ one. IsAnswered args held one)) same answered)
       (subst (λ r. Ends (answer_seen r) output (moment read out) after 0) same ends) last

@@ -1,4 +1,3 @@
 pub mod Lost
 pub mod Steps
-pub mod Told
 pub mod believed

@@ -4,13 +4,12 @@ use Rattle.cov_model.specs.believed.Sound.{ModelView}
 use Rattle.command_line.specs.believed.Stops.{stop_of_plan}
 use Rattle.jeldroft_args.specs.declared.shrink.Shrink.{Shrink}
 use Rattle.row_forms.specs.declared.row_form.RowForm.{RowForm}
-use Rattle.shorter_suites.specs.Bounds.{least_needed}
+use Rattle.shorter_suites.specs.believed.Bounds.{least_needed}
 use Rattle.shorter_suites.specs.believed.Laws.{rows_of}
 use Rattle.shorter_suites.specs.believed.Shrinking.{IsShrunk}
 use Rattle.suite_forms.specs.believed.Suites.{suite_text}
 use Rattle.tuple_index.specs.believed.PlanFault.{limit_passed}
 use Rattle.tuple_index.specs.declared.fault.PlanFault.{PlanFault}
-use Rattle.jeldroft_shrink.specs.declared.answer.Answer.{Answer}
 use Rattle.jeldroft_shrink.specs.declared.answer.Table.{Table}
 use Rattle.jeldroft_shrink.specs.declared.cause.ShrinkCause.{ShrinkCause}
 use Rattle.jeldroft_shrink.specs.declared.cause.ShrinkFailure.{ShrinkFailure}
@@ -56,8 +55,8 @@ pub record IsAnswered (args : Shrink) (held : HeldFiles) (table : Table) : Type 
   pub has : HasTable args held form m table
 
 -- an answer, as the text or the status of the cause for which there is none
-abbrev pub answer_seen : Result Answer ShrinkFailure → Result (List ℕ) ℕ
-answer_seen (Ok answer) = Ok answer.suite.table.text.items
+abbrev pub answer_seen : Result Table ShrinkFailure → Result (List ℕ) ℕ
+answer_seen (Ok table) = Ok table.text.items
 answer_seen (Err failure) = Err (status_of failure.cause)
 
 -- the status of an end

@@ -18,13 +18,14 @@ use crate::cause::{ShrinkCause, ShrinkFailure};
 use crate::given::read_given;
 use crate::lost::lost_lines;
 use crate::named::Named;
+use crate::notes::Notes;
 use crate::seeds::read_seeds;
 use crate::suite::fewer_tests;
 use command_line::Stop;
 use cov_model::{Rows, TestModel};
 use jeldroft_args::{Format, Shrink};
 use jeldroft_files::read_model_file;
-use model_lex::NoteList;
+use jeldroft_words::FewerTests;
 use outside_io::Folder;
 use row_forms::RowForm;
 use row_text::RowFile;
@@ -34,46 +35,15 @@ use suite_shrink::copied_rows;
 use tuple_index::Plan;
 use value_text::NoMemory;
 
-/// How many tests there were and are, and how many any suite with this coverage needs at least.
-#[derive(Debug, Drop, Clone, Copy, PartialEq, Eq)]
-pub(crate) struct Numbers {
-    /// The given tests.
-    pub given: usize,
-    /// The tests in their place.
-    pub tests: usize,
-    /// No suite with this coverage has fewer tests.
-    pub least: u64,
-}
-
 /// A table of fewer tests.
 #[derive(Drop)]
 pub(crate) struct Table {
     /// Its text.
     pub text: Vec<u8>,
     /// Its numbers.
-    pub numbers: Numbers,
+    pub numbers: FewerTests,
     /// The lines of the seed rows that no given row contains.
     pub lost: Vec<u32>,
-}
-
-/// A table of fewer tests, and what is told of the files of rows.
-#[derive(Drop)]
-pub(crate) struct Suite {
-    /// The table.
-    pub table: Table,
-    /// Notes on the given table.
-    pub table_notes: NoteList,
-    /// Notes on the file of seed rows.
-    pub seed_notes: NoteList,
-}
-
-/// What `shrink` writes, and what it tells.
-#[derive(Drop)]
-pub(crate) struct Answer {
-    /// The suite.
-    pub suite: Suite,
-    /// Notes on the model file.
-    pub model_notes: NoteList,
 }
 
 // The tests that are made fewer, and the seed rows.
@@ -118,12 +88,13 @@ fn seeds_name(args: &Shrink) -> Option<&str>
     }
 }
 
-// The rows of the table and of the file of seed rows.
+// The rows of the table and of the file of seed rows. `notes` gets what there is to warn of.
 fn read_tests<'n, F: Folder>(
     alloc: Global,
     args: &'n Shrink,
     model: &TestModel,
     files: &mut F,
+    notes: &mut Notes,
 ) -> Result<Tests, ShrinkFailure<'n>>
     ensures tests { IfOk result (λ tests. (held : HeldFiles) → Holds (F.seen files.old).files args.now held → limit_passed model.now ≡ None
         → HaveRows args.now held model.now (seeds_seen tests.given) (seeds_seen tests.seeds)) }
@@ -134,20 +105,31 @@ fn read_tests<'n, F: Folder>(
     ensures partial { IfOk result (λ tests. All (λ row. FitsModel model.now row.cells) tests.seeds.rows) }
     ensures files { KeepsFiles (F.seen files.old) (F.seen files.new) }
 {
-    let given = read_given(alloc, model, args.table.as_str(), args.delimiter, files)?;
-    let seeds = read_seeds(alloc, model, seeds_name(args), args.delimiter, files)?;
+    let given = read_given(
+        alloc,
+        model,
+        args.table.as_str(),
+        args.delimiter,
+        files,
+        &mut notes.table,
+    )?;
+    let seeds = read_seeds(
+        alloc,
+        model,
+        seeds_name(args),
+        args.delimiter,
+        files,
+        &mut notes.seeds,
+    )?;
     Ok(Tests { given, seeds })
 }
 
-// The rows of a file in one piece of memory, and the notes on it. Each row of a file has memory of its own, which is given
-// back.
-fn pack(alloc: Global, model: &TestModel, file: RowFile) -> Result<(Rows, NoteList), NoMemory>
+// The rows of a file in one piece of memory. Each row of a file has memory of its own, which is given back.
+fn pack(alloc: Global, model: &TestModel, file: RowFile) -> Result<Rows, NoMemory>
     requires { All (λ row. FitsModel model.now row.cells) file.rows }
-    ensures { IfOk result (λ packed. packed.0 ≡ suite_seen file) }
+    ensures { IfOk result (λ rows. rows ≡ suite_seen file) }
 {
-    let rows = copied_rows(alloc, model, &file)?;
-    let RowFile { rows: _, notes } = file;
-    Ok((rows, notes))
+    copied_rows(alloc, model, &file)
 }
 
 // The table of fewer tests in place of these.
@@ -169,7 +151,7 @@ fn table_of(
     let fewer = fewer_tests(alloc, model, plan, given, seeds, args)?;
     let lost = lost_lines(alloc, given, seeds)?;
     let text = suite_text(alloc, form, model, &fewer.rows)?;
-    let numbers = Numbers {
+    let numbers = FewerTests {
         given: given.len(),
         tests: fewer.rows.len(),
         least: fewer.least,
@@ -181,54 +163,54 @@ fn table_of(
     })
 }
 
-// The table of fewer tests of a model, and what is told of the files of rows.
+// The table of fewer tests of a model. `notes` gets what there is to warn of in the files of rows.
 fn suite_of<'n, F: Folder>(
     alloc: Global,
     args: &'n Shrink,
     form: RowForm,
     model: &TestModel,
     files: &mut F,
-) -> Result<Suite, ShrinkFailure<'n>>
-    ensures table { IfOk result (λ suite. (held : HeldFiles) → Holds (F.seen files.old).files args.now held
-        → HasTable args.now held form model.now suite.table) }
+    notes: &mut Notes,
+) -> Result<Table, ShrinkFailure<'n>>
+    ensures table { IfOk result (λ table. (held : HeldFiles) → Holds (F.seen files.old).files args.now held
+        → HasTable args.now held form model.now table) }
     ensures stops { IfErr result (λ failure. (held : HeldFiles) → Holds (F.seen files.old).files args.now held
         → (status_of failure.cause ≡ 3) ⊎ LackRows args.now held model.now failure.cause) }
     ensures files { KeepsFiles (F.seen files.old) (F.seen files.new) }
 {
     let plan = plan_of(alloc, model, args.model.name.as_str())?;
-    let tests = read_tests(alloc, args, model, files)?;
+    let tests = read_tests(alloc, args, model, files, notes)?;
     let Tests { given, seeds } = tests;
-    let (rows, table_notes) = pack(alloc, model, given)?;
+    let rows = pack(alloc, model, given)?;
     let table = table_of(alloc, args, form, model, &plan, &rows, &seeds)?;
-    Ok(Suite {
-        table,
-        table_notes,
-        seed_notes: seeds.notes,
-    })
+    Ok(table)
 }
 
-// What is written in this form, and what is told.
+// The table in this form. `notes` gets what there is to warn of, also where there is no table.
 fn answer_in<'n, F: Folder>(
     alloc: Global,
     args: &'n Shrink,
     form: RowForm,
     files: &mut F,
-) -> Result<Answer, ShrinkFailure<'n>>
+    notes: &mut Notes,
+) -> Result<Table, ShrinkFailure<'n>>
     requires marks { AreMarks args.now.model.marks }
     requires strength { IsStrength args.now.strength }
     requires formed { form_of args.now.format ≡ Some form }
     ensures called { (held : HeldFiles) → Holds (F.seen files.old).files args.now held
         → IsCalledFor status_of (IsDue args.now held) (answer_seen result) }
-    ensures table { IfOk result (λ answer. (held : HeldFiles) → Holds (F.seen files.old).files args.now held
-        → IsAnswered args.now held answer.suite.table) }
+    ensures table { IfOk result (λ table. (held : HeldFiles) → Holds (F.seen files.old).files args.now held
+        → IsAnswered args.now held table) }
     ensures files { KeepsFiles (F.seen files.old) (F.seen files.new) }
 {
     let (model, model_notes) = read_model_file(alloc, &args.model, args.strength, files)?;
-    let suite = suite_of(alloc, args, form, &model, files)?;
-    Ok(Answer { suite, model_notes })
+    let table = suite_of(alloc, args, form, &model, files, notes);
+    notes.model = model_notes;
+    notes.read = Some(model);
+    table
 }
 
-/// What `shrink` writes, and what it tells.
+/// The table of fewer tests. `notes` gets what there is to warn of, also where there is none.
 ///
 /// # Errors
 ///
@@ -238,17 +220,18 @@ pub(crate) fn make_answer<'n, F: Folder>(
     alloc: Global,
     args: &'n Shrink,
     files: &mut F,
-) -> Result<Answer, ShrinkFailure<'n>>
+    notes: &mut Notes,
+) -> Result<Table, ShrinkFailure<'n>>
     requires marks { AreMarks args.now.model.marks }
     requires strength { IsStrength args.now.strength }
     ensures called { (held : HeldFiles) → Holds (F.seen files.old).files args.now held
         → IsCalledFor status_of (IsDue args.now held) (answer_seen result) }
-    ensures table { IfOk result (λ answer. (held : HeldFiles) → Holds (F.seen files.old).files args.now held
-        → IsAnswered args.now held answer.suite.table) }
+    ensures table { IfOk result (λ table. (held : HeldFiles) → Holds (F.seen files.old).files args.now held
+        → IsAnswered args.now held table) }
     ensures files { KeepsFiles (F.seen files.old) (F.seen files.new) }
 {
     match form_of(args.format) {
-        Some(form) => answer_in(alloc, args, form, files),
+        Some(form) => answer_in(alloc, args, form, files, notes),
         None => Err(ShrinkFailure {
             file: "",
             cause: ShrinkCause::NoTable,

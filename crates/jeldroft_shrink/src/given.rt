@@ -12,10 +12,12 @@ ghost use Rattle.jeldroft_shrink.specs.Steps.{Gives};
 
 use crate::cause::{ShrinkCause, ShrinkFailure};
 use crate::named::{fault_named, flaw_named};
+use crate::table_notes::TableNotes;
 use command_line::Stop;
 use cov_model::TestModel;
 use jeldroft_args::Delimiter;
-use jeldroft_files::read_table;
+use jeldroft_files::read_table_text;
+use model_lex::NoteList;
 use outside_io::Folder;
 use row_text::{FileRow, RowFile, RowMode, is_complete, read_rows};
 use std::alloc::Global;
@@ -23,20 +25,27 @@ use std::alloc::Global;
 // The most rows that may be made fewer.
 const MOST_ROWS: usize = 65_533;
 
-// The rows that the bytes of a table hold.
+// The rows that the bytes of a table hold. `notes` gets the notes on them.
 fn read_bytes<'n>(
     alloc: Global,
     model: &TestModel,
     mode: RowMode,
     name: &'n str,
     bytes: &[u8],
+    notes: &mut NoteList,
 ) -> Result<RowFile, ShrinkFailure<'n>>
     requires within { length bytes.now ≤ 2 ^ 28 }
     ensures reads { Gives seeds_seen (lines_read (rows_or_cause (read_rows model.now (mode_seen mode) bytes.now))) result }
     ensures fit { IfOk result (λ file. All (λ row. FitsModel model.now row.cells) file.rows) }
 {
     match read_rows(alloc, bytes, model, mode) {
-        Ok(file) => Ok(file),
+        Ok(file) => {
+            *notes = file.notes;
+            Ok(RowFile {
+                rows: file.rows,
+                notes: NoteList::new(alloc),
+            })
+        }
         Err(fault) => {
             let named = fault_named(alloc, model, fault);
             Err(ShrinkFailure::stop(name, Stop::from(fault)).naming(named))
@@ -44,7 +53,11 @@ fn read_bytes<'n>(
     }
 }
 
-/// The rows of a file of rows.
+/// The rows of a file of rows. `notes` gets what there is to warn of.
+///
+/// # Errors
+///
+/// A failure of the file, or what its rows are refused for.
 pub(crate) fn read_file<'n, F: Folder>(
     alloc: Global,
     model: &TestModel,
@@ -52,14 +65,24 @@ pub(crate) fn read_file<'n, F: Folder>(
     name: &'n str,
     delimiter: Option<Delimiter>,
     files: &mut F,
+    notes: &mut TableNotes,
 ) -> Result<RowFile, ShrinkFailure<'n>>
     ensures reads { IfSome ((F.seen files.old).files name.now) (λ held.
         Gives seeds_seen (lines_of model.now (mode_seen mode) (is_comma delimiter name.now) held) result) }
     ensures fit { IfOk result (λ file. All (λ row. FitsModel model.now row.cells) file.rows) }
     ensures files { KeepsFiles (F.seen files.old) (F.seen files.new) }
 {
-    let bytes = read_table(alloc, name, delimiter, files)?;
-    read_bytes(alloc, model, mode, name, bytes.as_slice())
+    let text = read_table_text(alloc, name, delimiter, files)?;
+    let read = read_bytes(
+        alloc,
+        model,
+        mode,
+        name,
+        text.tabs.as_slice(),
+        &mut notes.rows,
+    );
+    notes.keep(text);
+    read
 }
 
 // What is wrong with a row: it leaves a parameter without a value, or it isn't valid.
@@ -129,7 +152,7 @@ fn unless_flawed<'n>(
     }
 }
 
-/// The rows of a table, each a test of the model.
+/// The rows of a table, each a test of the model. `notes` gets what there is to warn of, also where they are refused.
 ///
 /// # Errors
 ///
@@ -141,6 +164,7 @@ pub(crate) fn read_given<'n, F: Folder>(
     name: &'n str,
     delimiter: Option<Delimiter>,
     files: &mut F,
+    notes: &mut TableNotes,
 ) -> Result<RowFile, ShrinkFailure<'n>>
     ensures reads { IfSome ((F.seen files.old).files name.now) (λ held.
         Gives seeds_seen (given_in model.now (is_comma delimiter name.now) held) result) }
@@ -148,6 +172,6 @@ pub(crate) fn read_given<'n, F: Folder>(
     ensures fit { IfOk result (λ given. All (λ row. FitsModel model.now row.cells) given.rows) }
     ensures files { KeepsFiles (F.seen files.old) (F.seen files.new) }
 {
-    let file = read_file(alloc, model, RowMode::Suite, name, delimiter, files)?;
+    let file = read_file(alloc, model, RowMode::Suite, name, delimiter, files, notes)?;
     unless_flawed(alloc, model, name, file)
 }

@@ -7,6 +7,8 @@
 //! - Its clause `runs` cites specs/Runs: which text the bytes of the files call for, and for which causes they call for
 //!   none. Which of the shorter suites is written is free, but it is a function of the options and of these bytes: there is
 //!   no clock and no schedule in it.
+//! - Its clause `told` cites specs/Told: by which line a terminal is told how many tests there are now, and how many this
+//!   coverage needs at least. What else is told, the warnings also where there is no table, is free.
 //!
 //! All memory is taken before the first byte is written.
 #![tactic(auto)]
@@ -16,9 +18,11 @@ mod cause;
 mod given;
 mod lost;
 mod named;
+mod notes;
 mod run;
 mod seeds;
 mod suite;
+mod table_notes;
 mod tell;
 
 pub use cause::ShrinkCause;

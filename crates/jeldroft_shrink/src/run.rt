@@ -5,11 +5,13 @@ ghost use Rattle.jeldroft_files.specs.believed.Runs.{Leaves, RunsAs, moment};
 ghost use Rattle.jeldroft_shrink.specs.believed.Causes.{status_of};
 ghost use Rattle.jeldroft_shrink.specs.believed.Runs.{HeldFiles, Holds, IsDue, WritesShorter};
 ghost use Rattle.jeldroft_shrink.specs.Steps.{answer_seen, end_status};
-ghost use Rattle.jeldroft_shrink.specs.Told.{SumsUp, TellsLast, sum_line};
+ghost use Rattle.jeldroft_shrink.specs.believed.Told.{SumsUp};
+ghost use Rattle.jeldroft_words.specs.believed.Sums.{TellsLast, sum_line};
 
-use crate::answer::{Answer, make_answer};
+use crate::answer::{Table, make_answer};
 use crate::cause::ShrinkFailure;
-use crate::tell::{tell_answer, tell_failure};
+use crate::notes::Notes;
+use crate::tell::{tell_answer, tell_failure, tell_warnings};
 use jeldroft_args::Shrink;
 use jeldroft_files::write_text;
 use outside_io::{Folder, Sink};
@@ -25,37 +27,39 @@ fn output_name(args: &Shrink) -> Option<&str>
     }
 }
 
-// Writes the table of an answer, if there is one.
+// Writes the table, if there is one.
 fn write_answer<'n, F: Folder, O: Sink>(
-    answer: Result<Answer, ShrinkFailure<'n>>,
+    answer: Result<Table, ShrinkFailure<'n>>,
     output: Option<&'n str>,
     files: &mut F,
     out: &mut O,
-) -> Result<Answer, ShrinkFailure<'n>>
+) -> Result<Table, ShrinkFailure<'n>>
     ensures ends { Ends (answer_seen answer.entry) (option_map (λ name. name.now) output.entry)
         (moment (F.seen files.old) (O.seen out.old)) (moment (F.seen files.new) (O.seen out.new)) (end_status result) }
     ensures same { IfOk result (λ given. answer.entry ≡ Ok given) }
 {
-    let answer = answer?;
-    write_text(answer.suite.table.text.as_slice(), output, files, out)?;
-    Ok(answer)
+    let table = answer?;
+    write_text(table.text.as_slice(), output, files, out)?;
+    Ok(table)
 }
 
 // Tells what there is to tell of an end, and gives its exit status.
 fn finish<E: Sink>(
     alloc: Global,
-    end: &Result<Answer, ShrinkFailure<'_>>,
+    end: &Result<Table, ShrinkFailure<'_>>,
     args: &Shrink,
+    notes: &Notes,
     terminal: bool,
     diag: &mut E,
 ) -> u8
     ensures status { result ≡ end_status end.now }
-    ensures told { terminal ≡ true → args.now.quiet ≡ false → IfOk end.now (λ answer. TellsLast (sum_line answer.suite.table.numbers.tests
-        answer.suite.table.numbers.given answer.suite.table.numbers.least) (E.seen diag.new)) }
+    ensures told { terminal ≡ true → args.now.quiet ≡ false → IfOk end.now (λ table. TellsLast (sum_line table.numbers.tests
+        table.numbers.given table.numbers.least) (E.seen diag.new)) }
 {
+    tell_warnings(args, notes, diag);
     match end {
-        Ok(answer) => {
-            tell_answer(answer, args, terminal, diag);
+        Ok(table) => {
+            tell_answer(table, args, terminal, diag);
             0
         }
         Err(failure) => {
@@ -90,7 +94,7 @@ pub fn run_shrink<F: Folder, O: Sink, E: Sink>(
         WritesShorter args.now held (moment (F.seen files.old) (O.seen out.old)) (moment (F.seen files.new) (O.seen out.new)) }
 
     // On a terminal, unless silence is asked for, the last line that is told sums it up: the number of tests that were
-    // given, of those in their place, and one below which no tests have this coverage. Premise: as above.
+    // given, of those in their place, and one below which no valid tests have this coverage. Premise: as above.
     ensures told { result ≡ 0 → terminal ≡ true → args.now.quiet ≡ false → (held : HeldFiles) → Holds (F.seen files.old).files args.now held →
         SumsUp args.now held (moment (F.seen files.old) (O.seen out.old)) (moment (F.seen files.new) (O.seen out.new)) (E.seen diag.new) }
 
@@ -104,7 +108,8 @@ pub fn run_shrink<F: Folder, O: Sink, E: Sink>(
     ensures leaves { Leaves args.now.output (moment (F.seen files.old) (O.seen out.old)) (moment (F.seen files.new) (O.seen out.new)) result }
     ensures answered { result ≢ 1 }
 {
-    let answer = make_answer(alloc, args, files);
+    let mut notes = Notes::none(alloc);
+    let answer = make_answer(alloc, args, files, &mut notes);
     let end = write_answer(answer, output_name(args), files, out);
-    finish(alloc, &end, args, terminal, diag)
+    finish(alloc, &end, args, &notes, terminal, diag)
 }

@@ -7,6 +7,7 @@ ghost use Rattle.jeldroft_shrink.specs.Steps.{Gives};
 
 use crate::cause::ShrinkFailure;
 use crate::given::read_file;
+use crate::table_notes::TableNotes;
 use cov_model::TestModel;
 use jeldroft_args::Delimiter;
 use model_lex::NoteList;
@@ -24,7 +25,7 @@ fn no_rows(alloc: Global) -> RowFile
     }
 }
 
-/// The rows of a file of seed rows, where one is named.
+/// The rows of a file of seed rows, where one is named. `notes` gets what there is to warn of.
 ///
 /// # Errors
 ///
@@ -35,6 +36,7 @@ pub(crate) fn read_seeds<'n, F: Folder>(
     name: Option<&'n str>,
     delimiter: Option<Delimiter>,
     files: &mut F,
+    notes: &mut TableNotes,
 ) -> Result<RowFile, ShrinkFailure<'n>>
     ensures reads { (held : Option (List ℕ)) → IfSome (option_map (λ named. named.now) name.entry) (λ named. (F.seen files.old).files named ≡ Some held)
         → Gives seeds_seen (seeds_in model.now delimiter (option_map (λ named. named.now) name.entry) held) result }
@@ -42,7 +44,7 @@ pub(crate) fn read_seeds<'n, F: Folder>(
     ensures files { KeepsFiles (F.seen files.old) (F.seen files.new) }
 {
     match name {
-        Some(name) => read_file(alloc, model, RowMode::Seed, name, delimiter, files),
+        Some(name) => read_file(alloc, model, RowMode::Seed, name, delimiter, files, notes),
         None => Ok(no_rows(alloc)),
     }
 }

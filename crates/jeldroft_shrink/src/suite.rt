@@ -2,7 +2,7 @@ ghost use Rattle.std.specs.Prelude.{◌≡◌, true, All, IfOk};
 ghost use Rattle.cov_model.specs.Fits.{FitsModel};
 ghost use Rattle.cov_model.specs.believed.Valid.{is_valid};
 ghost use Rattle.row_text.specs.RowFiles.{suite_seen};
-ghost use Rattle.shorter_suites.specs.Bounds.{least_needed};
+ghost use Rattle.shorter_suites.specs.believed.Bounds.{least_needed};
 ghost use Rattle.shorter_suites.specs.believed.Shrinking.{IsShrunk};
 ghost use Rattle.tuple_index.specs.Plan.{plan_of};
 

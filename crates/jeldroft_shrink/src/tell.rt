@@ -1,16 +1,15 @@
 ghost use Rattle.std.specs.Prelude.{◌≡◌, true, false};
-ghost use Rattle.outside_io.specs.believed.Puts.{Puts};
-ghost use Rattle.jeldroft_shrink.specs.Told.{TellsLast, met_line, open_line, sum_line};
+ghost use Rattle.jeldroft_words.specs.believed.Sums.{TellsLast, sum_line};
 
-use crate::answer::{Answer, Numbers};
+use crate::answer::Table;
 use crate::cause::{ShrinkCause, ShrinkFailure};
 use crate::named::Named;
+use crate::notes::Notes;
 use cov_model::RowWhy;
 use itoa::Buffer;
 use jeldroft_args::Shrink;
-use jeldroft_words::{tell_cause, tell_no_column, tell_notes};
-use model_lex::Note;
-use outside_io::{Sink, WriteAnswer, put_pieces};
+use jeldroft_words::{tell_cause, tell_fewer, tell_no_column, tell_notes};
+use outside_io::{Sink, put_pieces};
 use std::alloc::Global;
 
 // Tells of a line of a file.
@@ -20,10 +19,9 @@ fn tell_line<E: Sink>(file: &str, line: u32, text: &str, diag: &mut E) {
     let _ = put_pieces(diag, &[file, ":", line, ": ", text, "\n"]);
 }
 
-// Tells of the notes on the file of seed rows, and of the seed rows that no given row contains.
-fn tell_seeds<E: Sink>(file: &str, notes: &[Note], lost: &[u32], diag: &mut E) {
-    tell_notes(file, notes, diag);
-    for line in lost {
+// Tells of the seed rows that no given row contains, which stand in these lines.
+fn tell_lost<E: Sink>(file: &str, lines: &[u32], diag: &mut E) {
+    for line in lines {
         tell_line(
             file,
             *line,
@@ -33,85 +31,41 @@ fn tell_seeds<E: Sink>(file: &str, notes: &[Note], lost: &[u32], diag: &mut E) {
     }
 }
 
-// Tells what is odd about the files, unless that isn't wanted.
-fn tell_warnings<E: Sink>(answer: &Answer, args: &Shrink, diag: &mut E) {
+/// Tells what is odd about the files, unless that isn't wanted.
+pub(crate) fn tell_warnings<E: Sink>(args: &Shrink, notes: &Notes, diag: &mut E) {
     if args.no_warnings {
         return;
     }
-    let suite = &answer.suite;
-    tell_notes(
-        args.model.name.as_str(),
-        answer.model_notes.as_slice(),
-        diag,
-    );
-    tell_notes(args.table.as_str(), suite.table_notes.as_slice(), diag);
+    tell_notes(args.model.name.as_str(), notes.model.as_slice(), diag);
+    let Some(model) = &notes.read else {
+        return;
+    };
+    notes.table.tell(args.table.as_str(), model, diag);
     if let Some(seeds) = &args.seeds {
-        tell_seeds(
-            seeds.as_str(),
-            suite.seed_notes.as_slice(),
-            suite.table.lost.as_slice(),
-            diag,
-        );
+        notes.seeds.tell(seeds.as_str(), model, diag);
     }
 }
 
-// Sums up: how many tests there are in place of how many, where no suite is shorter.
-fn tell_met<E: Sink>(tests: usize, given: usize, diag: &mut E) -> WriteAnswer
-    ensures { Puts result (E.seen diag.old) (E.seen diag.new) (met_line tests given) }
-{
-    let mut tests_buffer = Buffer::new();
-    let mut given_buffer = Buffer::new();
-    put_pieces(
-        diag,
-        &[
-            tests_buffer.format(tests),
-            " tests in place of ",
-            given_buffer.format(given),
-            "; no suite with this coverage is shorter\n",
-        ],
-    )
-}
-
-// Sums up: how many tests there are in place of how many, and how many are needed at least.
-fn tell_open<E: Sink>(tests: usize, given: usize, least: u64, diag: &mut E) -> WriteAnswer
-    ensures { Puts result (E.seen diag.old) (E.seen diag.new) (open_line tests given least) }
-{
-    let mut tests_buffer = Buffer::new();
-    let mut given_buffer = Buffer::new();
-    let mut least_buffer = Buffer::new();
-    put_pieces(
-        diag,
-        &[
-            tests_buffer.format(tests),
-            " tests in place of ",
-            given_buffer.format(given),
-            "; at least ",
-            least_buffer.format(least),
-            " are needed for this coverage\n",
-        ],
-    )
-}
-
-// Sums up.
-fn tell_numbers<E: Sink>(numbers: Numbers, diag: &mut E) -> WriteAnswer
-    ensures { Puts result (E.seen diag.old) (E.seen diag.new) (sum_line numbers.tests numbers.given numbers.least) }
-{
-    if numbers.tests as u64 == numbers.least {
-        return tell_met(numbers.tests, numbers.given, diag);
+// Tells which seed rows are lost, unless that isn't wanted.
+fn tell_seeds<E: Sink>(args: &Shrink, lost: &[u32], diag: &mut E) {
+    if args.no_warnings {
+        return;
     }
-    tell_open(numbers.tests, numbers.given, numbers.least, diag)
+    if let Some(seeds) = &args.seeds {
+        tell_lost(seeds.as_str(), lost, diag);
+    }
 }
 
-/// Tells what is odd about the files, and on a terminal how many tests there are now.
-pub(crate) fn tell_answer<E: Sink>(answer: &Answer, args: &Shrink, terminal: bool, diag: &mut E)
-    ensures { terminal ≡ true → args.now.quiet ≡ false → TellsLast (sum_line answer.now.suite.table.numbers.tests answer.now.suite.table.numbers.given
-        answer.now.suite.table.numbers.least) (E.seen diag.new) }
+/// Tells which seed rows are lost, and on a terminal how many tests there are now.
+pub(crate) fn tell_answer<E: Sink>(table: &Table, args: &Shrink, terminal: bool, diag: &mut E)
+    ensures { terminal ≡ true → args.now.quiet ≡ false → TellsLast (sum_line table.now.numbers.tests table.now.numbers.given
+        table.now.numbers.least) (E.seen diag.new) }
 {
-    tell_warnings(answer, args, diag);
+    tell_seeds(args, table.lost.as_slice(), diag);
     if args.quiet || !terminal {
         return;
     }
-    let _ = tell_numbers(answer.suite.table.numbers, diag);
+    tell_fewer(table.numbers, diag);
 }
 
 // Tells which constraint a test breaks.

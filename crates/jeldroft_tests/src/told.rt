@@ -98,6 +98,23 @@ const WARNINGS: &[Told<'static>] = &[
         files: &[("m", "A: 1, 2\nB: x, y\n[B] = \"x\";\n")],
         told: "",
     },
+    // a column and a cell that name nothing, of tests that are made fewer and of seeds
+    Told {
+        words: &["shrink", "m", "t", "--seeds", "s.csv", "-o", "r"],
+        files: &[
+            ("m", FULL),
+            ("t", "A\tB\tC\n1\tx\t7\n2\ty\t7\n"),
+            ("s.csv", "A,B\n1,q\n1,y\n"),
+        ],
+        told: "t:1:5: warning: no parameter is named \"C\"; the column is ignored [V2]\n\
+            s.csv:2:3: warning: column B: \"q\" is no value of it; the cell is ignored [V3]\n\
+            s.csv:3: warning: no given test contains this row\n",
+    },
+    Told {
+        words: &["shrink", "m", "t", "-o", "r", "--no-warnings"],
+        files: &[("m", FULL), ("t", "A\tB\tC\n1\tx\t7\n")],
+        told: "",
+    },
     // cells of a table, with tabs and with commas; in a line with quotes the column isn't told
     Told {
         words: &["measure", "m", "t", "-o", "r"],
@@ -129,6 +146,23 @@ const REFUSALS: &[Told<'static>] = &[
         files: &[("m", FULL), ("t", "B\nx\n")],
         told: "t: error: no column for the parameter A [F3]\n",
     },
+    // what is refused, and what there is to warn of
+    Told {
+        words: &["shrink", "m", "t"],
+        files: &[("m", FULL), ("t", "A\tB\n1\tx\n2\tq\n")],
+        told: "t:3:3: warning: column B: \"q\" is no value of it; the cell is ignored [V3]\n\
+            t:3: error: this test has no value of B\n",
+    },
+    Told {
+        words: &["shrink", "m", "t", "--seeds", "s"],
+        files: &[
+            ("m", FULL),
+            ("t", "A\tB\tC\n1\tx\t7\n"),
+            ("s", "A\tA\n1\t1\n"),
+        ],
+        told: "t:1:5: warning: no parameter is named \"C\"; the column is ignored [V2]\n\
+            s:1: error: two columns are of one parameter [F2]\n",
+    },
 ];
 
 const SUMS: &[Told<'static>] = &[
@@ -141,6 +175,23 @@ const SUMS: &[Told<'static>] = &[
         words: &["generate", "m", "-t1", "-o", "t"],
         files: &[("m", FULL)],
         told: "2 tests cover 4 of 4 combinations of 1 parameter\n",
+    },
+    // fewer tests
+    Told {
+        words: &["generate", "m", "--shrink", "-o", "t"],
+        files: &[("m", MODEL)],
+        told: "3 tests cover 3 of 4 combinations of 2 parameters; no test can have the other 1 (--proof lists them)\n\
+            3 tests in place of 3; no suite with this coverage is shorter\n",
+    },
+    Told {
+        words: &["shrink", "m", "t", "-o", "r"],
+        files: &[("m", FULL), ("t", "A\tB\n1\tx\n1\ty\n1\tx\n2\tx\n")],
+        told: "3 tests in place of 4; no suite with this coverage is shorter\n",
+    },
+    Told {
+        words: &["generate", "m", "-q", "--shrink", "-o", "t"],
+        files: &[("m", FULL)],
+        told: "",
     },
     Told {
         words: &["generate", "m", "-q", "-o", "t"],

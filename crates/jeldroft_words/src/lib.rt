@@ -6,12 +6,14 @@
 //! - `tell_notes` gives the warnings on a file by their lines, `tell_table_notes` and `tell_text_notes` those on a table
 //!   with what stands there. `FileNotes` keeps those on a model file and a table until they are told.
 //! - `forbidding_rule` finds a constraint that forbids a row by itself.
+//! - `tell_fewer` sums up fewer tests in place of given ones, by a line that is a promise (specs/Sums).
 //!
 //! What is told changes nothing else: a fault of the sink is passed over. Where memory is wanting, a line says less.
 #![tactic(auto)]
 
 mod comma_words;
 mod failure;
+mod fewer_tests;
 mod file_notes;
 mod finding;
 mod forbidding;
@@ -21,6 +23,7 @@ mod shown;
 mod table_notes;
 
 pub use failure::{tell_cause, tell_failure, tell_no_column};
+pub use fewer_tests::{FewerTests, tell_fewer};
 pub use file_notes::FileNotes;
 pub use forbidding::forbidding_rule;
 pub use notes::tell_notes;

@@ -28,7 +28,7 @@ use Rattle.definitions.proofs.Serving.{of_serves, served_is_choice}
 use Rattle.definitions.proofs.SliceLemmas.{IsSlice, is_slice, row_in_slice, slice_is}
 use Rattle.definitions.proofs.Totals.{count, count_less, counted, sum_less, sum_once, sum_ones, sum_swap}
 use Rattle.shorter_suites.specs.believed.Shrinking.{ServesToo}
-use Rattle.shorter_suites.specs.Bounds.{greatest, most_served, served_in}
+use Rattle.shorter_suites.specs.believed.Bounds.{greatest, most_served, served_in}
 use Rattle.shorter_suites.specs.Laws.{NoneIsShorter}
 
 -- none passes, or one at most does

@@ -19,7 +19,7 @@ use Rattle.definitions.specs.SliceRows.{IsSliceOf}
 use Rattle.shared_marks.specs.Served.{base_of}
 use Rattle.shared_marks.proofs.PlaceLemmas.{place_within, set_within, tuple_there}
 use Rattle.suite_shrink.specs.Coverage.{AreMarksOf}
-use Rattle.shorter_suites.specs.Bounds.{greatest, least_needed, most_served, served_in}
+use Rattle.shorter_suites.specs.believed.Bounds.{greatest, least_needed, most_served, served_in}
 use Rattle.tuple_index.specs.Kept.{IsKept}
 use Rattle.tuple_index.specs.Places.{has_part, start_of, ways_in}
 use Rattle.tuple_index.specs.Plan.{PlanView, plan_of, set_at}

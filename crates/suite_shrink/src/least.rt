@@ -6,7 +6,7 @@ ghost use Rattle.cov_model.specs.believed.Slices.{negative_values};
 ghost use Rattle.cov_model.specs.believed.Sound.{param_at};
 ghost use Rattle.cov_model.specs.declared.slice.Slice.TheVariants.{Negative};
 ghost use Rattle.definitions.specs.SliceRows.{IsSliceOf};
-ghost use Rattle.shorter_suites.specs.Bounds.{least_needed, most_served, served_in};
+ghost use Rattle.shorter_suites.specs.believed.Bounds.{least_needed, most_served, served_in};
 ghost use Rattle.suite_shrink.specs.Coverage.{AreMarksOf};
 ghost use Rattle.tuple_index.specs.Plan.{plan_of, set_at};
 

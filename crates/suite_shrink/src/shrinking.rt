@@ -1,7 +1,7 @@
 ghost use Rattle.std.specs.Prelude.{◌≡◌, true, All, IfOk};
 ghost use Rattle.cov_model.specs.Preference.{OrdersValues};
 ghost use Rattle.cov_model.specs.believed.Valid.{is_valid};
-ghost use Rattle.shorter_suites.specs.Bounds.{least_needed};
+ghost use Rattle.shorter_suites.specs.believed.Bounds.{least_needed};
 ghost use Rattle.shorter_suites.specs.believed.Shrinking.{IsShrunk};
 ghost use Rattle.shrink_search.specs.Fewer.{AreFewer};
 ghost use Rattle.tuple_index.specs.Plan.{plan_of};

@@ -1,6 +1,8 @@
--- What each command promises of a run, from one moment to another: what the contract of its call says.
-use Rattle.std.specs.Prelude.{◌≡◌, ◌≢◌, ℕ, not, List, Option, Some, None, IsSomeAnd}
+-- What each command promises of a run, from one moment to another, with what is told on the way, to a terminal or to none:
+-- what the contract of its call says.
+use Rattle.std.specs.Prelude.{◌≡◌, ◌≢◌, ℕ, not, Bool, true, false, List, Option, Some, None, IsSomeAnd}
 use Rattle.definitions.specs.believed.Laws.{IsCertified}
+use Rattle.outside_io.specs.believed.Seen.{SinkSeen}
 use Rattle.check_cli.specs.believed.Runs as checked
 use Rattle.jeldroft_args.specs.declared.check.Check.{Check}
 use Rattle.jeldroft_args.specs.declared.import.Import.{Import}
@@ -17,8 +19,10 @@ use Rattle.jeldroft_check.specs.believed.Runs as checks
 use Rattle.jeldroft_lint.specs.believed.Linting.{LintsAs, Prints}
 use Rattle.jeldroft_generate.specs.believed.Due as generates
 use Rattle.jeldroft_generate.specs.believed.Runs as generated
+use Rattle.jeldroft_generate.specs.believed.Told as generated_told
 use Rattle.jeldroft_shrink.specs.believed.Causes as shrinks
 use Rattle.jeldroft_shrink.specs.believed.Runs as shrunk
+use Rattle.jeldroft_shrink.specs.believed.Told as shrunk_told
 use Rattle.jeldroft_show.specs.believed.Certified.{HoldsCertified}
 use Rattle.jeldroft_show.specs.believed.Due as due
 use Rattle.jeldroft_show.specs.believed.Shows as shown
@@ -67,13 +71,19 @@ pub record KeepsSequence (args : Sequence) (before after : Moment) (status : ℕ
       → before.folder.files name ≡ Some report → sequences.HasVerdict args.length held report (λ verdict. ¬ IsAccepted verdict)
   pub leaves : Leaves (sequences.output_of args.report args.output) before after status
 
-pub record KeepsGenerate (args : Generate) (before after : Moment) (status : ℕ) : Type 0 where
+pub record KeepsGenerate (args : Generate) (terminal : Bool) (before after : Moment) (told : SinkSeen) (status : ℕ) : Type 0 where
   pub headline : status ≡ 0 → generated.Covers args before after
+  -- where fewer tests are asked for, the last line that a terminal is told sums them up
+  pub sums : status ≡ 0 → args.shrinking ≢ None → terminal ≡ true → args.quiet ≡ false → (held : generates.Held) → generates.AreHeld args before.folder.files held
+      → generated_told.SumsUp args held before after told
   pub runs : (held : generates.Held) → generates.AreHeld args before.folder.files held → generated.Generates args held before after status
   pub leaves : generated.Leaves args before after status
 
-pub record KeepsShrink (args : Shrink) (before after : Moment) (status : ℕ) : Type 0 where
+pub record KeepsShrink (args : Shrink) (terminal : Bool) (before after : Moment) (told : SinkSeen) (status : ℕ) : Type 0 where
   pub shorter : status ≡ 0 → (held : shrunk.HeldFiles) → shrunk.Holds before.folder.files args held → shrunk.WritesShorter args held before after
+  -- the last line that a terminal is told sums it up
+  pub sums : status ≡ 0 → terminal ≡ true → args.quiet ≡ false → (held : shrunk.HeldFiles) → shrunk.Holds before.folder.files args held
+      → shrunk_told.SumsUp args held before after told
   pub runs : (held : shrunk.HeldFiles) → shrunk.Holds before.folder.files args held → RunsAs shrinks.status_of (shrunk.IsDue args held) args.output before after status
   pub leaves : Leaves args.output before after status
   pub answered : status ≢ 1
@@ -90,16 +100,16 @@ pub record KeepsLint (args : Lint) (before after : Moment) (status : ℕ) : Type
   pub leaves : Leaves None before after status
 
 -- what is promised of a command
-abbrev pub Keeps : Command → Moment → Moment → ℕ → Type 0
-Keeps (asks.Generate args) before after status = KeepsGenerate args before after status
-Keeps (asks.Check args) before after status = KeepsCheck args before after status
-Keeps (asks.Shrink args) before after status = KeepsShrink args before after status
-Keeps (asks.Show args) before after status = KeepsShow args before after status
-Keeps (asks.Lint args) before after status = KeepsLint args before after status
-Keeps (asks.Measure args) before after status = KeepsMeasure args before after status
-Keeps (asks.Suspect args) before after status = KeepsSuspect args before after status
-Keeps (asks.Sequence args) before after status = KeepsSequence args before after status
-Keeps (asks.Import args) before after status = KeepsImport args before after status
+abbrev pub Keeps : Command → Bool → Moment → Moment → SinkSeen → ℕ → Type 0
+Keeps (asks.Generate args) terminal before after told status = KeepsGenerate args terminal before after told status
+Keeps (asks.Check args) terminal before after told status = KeepsCheck args before after status
+Keeps (asks.Shrink args) terminal before after told status = KeepsShrink args terminal before after told status
+Keeps (asks.Show args) terminal before after told status = KeepsShow args before after status
+Keeps (asks.Lint args) terminal before after told status = KeepsLint args before after status
+Keeps (asks.Measure args) terminal before after told status = KeepsMeasure args before after status
+Keeps (asks.Suspect args) terminal before after told status = KeepsSuspect args before after status
+Keeps (asks.Sequence args) terminal before after told status = KeepsSequence args before after status
+Keeps (asks.Import args) terminal before after told status = KeepsImport args before after status
 
 -- memory was refused before a command began: nothing happened
 pub record IsUnbegun (before after : Moment) (status : ℕ) : Type 0 where

@@ -5,6 +5,7 @@ use Rattle.cov_model.specs.Fits.{FitsModel}
 use Rattle.cov_model.specs.believed.Valid.{is_valid}
 use Rattle.row_text.specs.RowFiles.{row_seen, seeds_seen, suite_seen}
 use Rattle.jeldroft_generate.specs.believed.Asked.{AreRowsFor, effort_of, orders_of, rows_of}
+use Rattle.jeldroft_generate.specs.Numbers.{AreNumbersFor}
 use Rattle.jeldroft_generate.proofs.Headline.{rows_fit, rows_valid}
 use Rattle.jeldroft_generate.proofs.Steps.{proof_made}
 use Rattle.jeldroft_generate.proofs.answer.make_suite.Goals as goal
@@ -39,4 +40,7 @@ returns-clause-made g c =
       proof =
           proof_made m (orders_of args m) seeds (effort_of args.budget) args.proof c.in_ok-grown.grown c.in_ok-made.made.proof.items
           c.in_ok-grown.ensures.suite c.in_ok-made.ensures.proof;
+      numbers =
+          subst (AreNumbersFor args.shrinking m (rows_of args m seeds) rows) (sym c.in_ok-made.ensures.numbers)
+          (subst (λ grown. AreNumbersFor args.shrinking m grown rows c.in_ok-tests.tests.fewer) c.in_ok-grown.ensures.suite.rows c.in_ok-tests.ensures.numbers);
     }

@@ -8,3 +8,6 @@ returns-clause-shrunk c =
 
 pub returns-clause-fit : goal.returns-clause-fit
 returns-clause-fit c = c.in_ok-shrunk.ensures.origin.fit
+
+pub returns-clause-numbers : goal.returns-clause-numbers
+returns-clause-numbers c = record { given = c.len.ensures; tests = c.len-2.ensures; least = c.in_ok-shrunk.ensures.least }

@@ -1,6 +1,6 @@
 use Rattle.std.proofs.Common.{◌≡◌, ◌≤◌, ◌<◌, [], length, get_or, ◌∙◌, ap, arith}
 use Rattle.definitions.specs.believed.Demand.{demanded_sets}
-use Rattle.shorter_suites.specs.Bounds.{served_in}
+use Rattle.shorter_suites.specs.believed.Bounds.{served_in}
 use Rattle.tuple_index.specs.Plan.{PlanView, set_at}
 use Rattle.suite_shrink.proofs.LeastLemmas.{greatest_all, greatest_more}
 use Rattle.suite_shrink.proofs.least.most_served.Goals as goal

@@ -1,6 +1,6 @@
 use Rattle.std.proofs.Common.{◌≡◌, ◌≤◌, ◌^◌, List, ℕ, Option, map, take}
 use Rattle.definitions.specs.believed.Demand.{demanded_sets}
-use Rattle.shorter_suites.specs.Bounds.{greatest, served_in}
+use Rattle.shorter_suites.specs.believed.Bounds.{greatest, served_in}
 use Rattle.suite_shrink.specs.Coverage.{AreMarksOf}
 use Rattle.suite_shrink.proofs.least.most_served.Given as goal
 

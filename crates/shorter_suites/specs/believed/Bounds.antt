@@ -1,11 +1,13 @@
 -- How many rows any suite needs that serves what given rows serve: within a set and a slice a row serves one
 -- tuple. (This project's rule.)
-use Rattle.std.specs.Prelude.{ℕ, List, [], ◌∷◌, map, length, max, sum_by, filter, Option}
+use Rattle.std.specs.Prelude.{◌≡◌, ℕ, ◌≤◌, true, List, [], ◌∷◌, map, length, max, sum_by, filter, Option, All}
 use Rattle.cov_model.specs.declared.slice.Slice.{Slice}
 use Rattle.cov_model.specs.believed.Sound.{ModelView}
 use Rattle.cov_model.specs.believed.Slices.{slices}
+use Rattle.cov_model.specs.believed.Valid.{is_valid}
 use Rattle.definitions.specs.believed.Demand.{demanded_sets, tuples_in}
 use Rattle.definitions.specs.believed.Figures.{is_served}
+use Rattle.shorter_suites.specs.believed.Shrinking.{ServesToo}
 
 -- how many of the demanded tuples of a set in a slice one of the rows serves
 abbrev pub served_in : ModelView → List (List (Option ℕ)) → Slice → List ℕ → ℕ
@@ -23,3 +25,7 @@ most_served m rows slice = greatest (map (served_in m rows slice) (demanded_sets
 -- its sum over the slices
 abbrev pub least_needed : ModelView → List (List (Option ℕ)) → ℕ
 least_needed m rows = sum_by (most_served m rows) (slices m)
+
+-- no valid rows that serve what given rows serve are fewer than so many
+abbrev pub NeedsAtLeast : ModelView → List (List (Option ℕ)) → ℕ → Type 0
+NeedsAtLeast m given least = (rows : List (List (Option ℕ))) → All (λ row. is_valid m row ≡ true) rows → ServesToo m given rows → least ≤ length rows

@@ -1,7 +1,7 @@
 use Rattle.std.proofs.Common.{◌++◌, ap, ◌∙◌, subst}
 use Rattle.std.specs.Prelude.{codes, decimal}
 use Rattle.outside_io.specs.believed.Puts.{Puts}
-use Rattle.jeldroft_shrink.proofs.tell.tell_open.Goals as goal
+use Rattle.jeldroft_words.proofs.fewer_tests.tell_open.Goals as goal
 
 pub returns : goal.returns
 returns g c =
