@@ -29,7 +29,7 @@ mkdir -p "$bin" "$man" "$doc/docs" "$completions" "$zsh" "$fish"
 log=$(mktemp)
 trap 'rm -f "$log"' EXIT
 for program in $programs; do
-    echo "proving and building $program; from nothing this takes half an hour or more"
+    echo "proving and building $program; from nothing the first takes an hour or two"
     # rt run builds a program and runs it once: without words, which it answers with its usage, or refuses
     (cd "$top/crates/$program" && rt run > "$log" 2>&1) || true
     if ! grep -q -e "^error: word 1 is not understood$" -e "^Usage: jeldroft" "$log"; then
@@ -47,8 +47,6 @@ install -m 644 "$top/completions/jeldroft.zsh" "$zsh/_jeldroft"
 install -m 644 "$top/completions/jeldroft.fish" "$fish/jeldroft.fish"
 # the pages name each other, and the examples, by their places in the repository
 install -m 644 "$top/README.md" "$doc/"
-for page in start.md guide.md pict.md reference.md troubles.md differences.md pictcheck.md pictacts.md pictseq.md definitions.md coverage.svg; do
-    install -m 644 "$top/docs/$page" "$doc/docs/"
-done
+install -m 644 "$top"/docs/* "$doc/docs/"
 cp -R "$top/examples" "$doc/"
 echo "installed: put $bin on the PATH"

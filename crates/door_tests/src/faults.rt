@@ -54,8 +54,8 @@ const ENDS: &[(&str, End, &str, &str)] = &[
         "Combinatorial testing",
         "Usage: jeldroft <COMMAND>",
     ),
-    ("--version", End::Shown, "jeldroft 0.1.0\n", ""),
-    ("-V", End::Shown, "jeldroft 0.1.0\n", ""),
+    ("--version", End::Shown, "jeldroft 1.0.0\n", ""),
+    ("-V", End::Shown, "jeldroft 1.0.0\n", ""),
     (
         "generate --help",
         End::Shown,

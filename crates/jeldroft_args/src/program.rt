@@ -9,7 +9,7 @@ use clap::Command;
 use std::alloc::{AllocError, Global};
 
 // The version that `--version` prints.
-const VERSION: &str = "0.1.0";
+const VERSION: &str = "1.0.0";
 
 // A command of the program, with its arguments.
 fn subcommand<'a>(alloc: Global, name: CommandName) -> Result<Command<'a>, AllocError>
