@@ -140,7 +140,6 @@ param_more m rows p =
     (flat_map-append block (range_with_len 0 p) (p ∷ []) ∙ ap (λ ss. before ++ ss) (append-nil (block p)))
     ∙ ap (λ n. most_served m rows Positive + n) (sum_by-append (most_served m rows) before (block p))
     ∙ sym (add_assoc (most_served m rows Positive) (sum_by (most_served m rows) before) (sum_by (most_served m rows) (block p)))
-  where
 
 pub params_none : (m : ModelView) (rows : List (List (Option ℕ))) → by_params m rows 0 ≡ most_served m rows Positive
 params_none m rows = omega arith

@@ -120,4 +120,3 @@ line_known m slice cells column set members first number step kept own play same
       within = inside;
       few = (let least = inside 0 some in omega (arith, least, places_few m slice kept own));
     }
-  where
