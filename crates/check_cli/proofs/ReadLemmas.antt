@@ -1,6 +1,6 @@
 -- What the reading of the three files gives, from that of each.
 use Rattle.std.proofs.Common.{◌≡◌, ℕ, ◌<◌, ◌≤◌, true, cond, List, Option, None, Some, Ok, Err, length, refl, sym, ap, subst, ◌∙◌}
-use Rattle.std.specs.Prelude.{IfSome, IsSomeAnd}
+use Rattle.std.specs.Prelude.{IsSomeAnd}
 use Rattle.std.proofs.lemmas.Bool.{le-ltb, lt-ltb}
 use Rattle.outside_io.specs.believed.Faults.{Rose}
 use Rattle.outside_io.specs.believed.Seen.{FolderSeen, KeepsFiles, KeepsReadFaults, ReadFaultsRose}
@@ -58,10 +58,6 @@ blames_itself kind stop names first before after of keeps rose other is =
     let same = of.read other is in
     let here = subst (λ n. Rose n (after.read_faults (name_of names kind))) (keeps (name_of names kind)) (rose (subst (λ k. stop ≡ CannotRead k) same is)) in
     subst (λ k. ReadFaultsRose (name_of names k) first after) (sym same) here
-
--- what is said of a told file
-pub told : (P : Option (List ℕ) → Type 0) {file : Option (Option (List ℕ))} {held : Option (List ℕ)} → file ≡ Some held → IfSome file P → P held
-told P is h = subst (λ f. IfSome f P) is h
 
 -- files that stay are told as before
 pub holds_after : (before after : FolderSeen) {names : NamesView} {held : HeldFiles} → KeepsFiles before after → Holds before.files names held → Holds after.files names held

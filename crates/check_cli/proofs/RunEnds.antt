@@ -47,7 +47,7 @@ use Rattle.command_line.proofs.OptsLemmas.{same_opts}
 use Rattle.command_line.proofs.WordLemmas.{command_read}
 
 -- a verdict as the program has it, and as it is defined
-text_told : (v : defined.Verdict) → answer_text (verdict_given v) ≡ verdict_text v
+pub text_told : (v : defined.Verdict) → answer_text (verdict_given v) ≡ verdict_text v
 text_told (defined.Accepted rows omissions) = refl
 text_told (defined.BadRow line) = refl
 text_told (defined.BadProof line) = refl
@@ -69,7 +69,7 @@ accepted_zero (defined.BadOmission line) zero = absurd (omega (arith, zero))
 accepted_zero (defined.Uncovered tuple) zero = absurd (omega (arith, zero))
 
 -- why a check of files that were read ends without a verdict
-same_report : (fault : RowsFault) (given : readings.RowsFault) → fault_of fault ≡ Some given → stop_of_rows fault ≡ stop_of_report given
+pub same_report : (fault : RowsFault) (given : readings.RowsFault) → fault_of fault ≡ Some given → stop_of_rows fault ≡ stop_of_report given
 same_report told_faults.NoHeader given is = ap stop_of_report (same_Some readings.NoHeader given is)
 same_report (told_faults.Twice line) given is = ap stop_of_report (same_Some (readings.Twice line) given is)
 same_report (told_faults.Missing p) given is = ap stop_of_report (same_Some (readings.Missing p) given is)

@@ -3,11 +3,12 @@ use Rattle.std.proofs.Common.{◌≡◌, ℕ, ◌+◌, ◌<◌, ◌≤◌, Bool,
 use Rattle.std.proofs.Common.{position, Option, Some, None, inl, inr, sym, ap, ap₂, ◌∙◌, arith}
 use Rattle.std.specs.Prelude.{◌==◌, option_map}
 use Rattle.std.specs.Option.{option_or}
-use Rattle.std.proofs.lemmas.Bool.{cases_Bool, cases_lt, eqb-false, eqb-true, false≢true, le-ltb}
+use Rattle.std.proofs.lemmas.Bool.{cases_Bool, cases_lt, eqb-false, false≢true, le-ltb}
 use Rattle.std.proofs.lemmas.List.{get_or-take, get_or_past, length-take, take_all}
 use Rattle.std.proofs.lemmas.List.Sums.{position_or_len_is}
 use Rattle.value_text.proofs.ListLemmas.{position_is}
 use Rattle.definitions.specs.believed.Words.{missing_name}
+use Rattle.tuple_index.proofs.ListingLemmas.{apart_test}
 
 -- none passes, by all of them
 pub placed_nowhere : {X : Type 0} (p : X → Bool) (xs : List X) (i : ℕ) (d : X) → length xs ≤ i
@@ -20,12 +21,6 @@ is_same : (n m : ℕ) → n ≡ m → (n == m) ≡ true
 is_same n m same = elim (cases_Bool (n == m)) [
   | inl equal ↦ equal
   | inr differs ↦ absurd (eqb-false n m differs same)
-]
-
-is_other : (n m : ℕ) → n < m → (n == m) ≡ false
-is_other n m less = elim (cases_Bool (n == m)) [
-  | inl same ↦ absurd (let e = eqb-true n m same in omega (arith, less, e))
-  | inr other ↦ other
 ]
 
 abbrev is_empty : List ℕ → Bool
@@ -65,6 +60,6 @@ module _ (words : List (List ℕ)) where
         ap₂ (by_parts (length words))
         (ap (position is_empty) all
         ∙ placed_nowhere is_empty words place [] (omega (arith, many)) (omega (arith, many)) given)
-        (ap (λ list. length list == count) all ∙ is_other (length words) count (omega (arith, many, within)))
+        (ap (λ list. length list == count) all ∙ apart_test (length words) count (omega (arith, many, within)))
         ∙ ap (λ n. Some (n + 1)) many
   ]

@@ -1,13 +1,13 @@
 -- What words set is in its ranges, and the marks differ.
-use Rattle.std.proofs.Common.{◌≡◌, ℕ, ◌≤◌, ◌^◌, ◌-◌, inl, inr, arith, Bool, true, false, not, ◌&&◌, ◌||◌, cond, if◌then◌else◌}
-use Rattle.std.proofs.Common.{List, [], ◌∷◌, ◌++◌, length, Option, Some, None, refl, sym, ap, subst, ◌∙◌}
-use Rattle.std.specs.Prelude.{option_map, codes, nat_le, ◌==◌}
+use Rattle.std.proofs.Common.{◌≡◌, ℕ, ◌^◌, ◌-◌, inl, inr, arith, Bool, true, false, not, ◌&&◌, ◌||◌, cond, if◌then◌else◌}
+use Rattle.std.proofs.Common.{List, [], ◌∷◌, ◌++◌, Option, Some, None, refl, sym, ap, subst, ◌∙◌}
+use Rattle.std.specs.Prelude.{option_map, codes, ◌==◌}
 use Rattle.std.specs.List.{list_any, after_first}
-use Rattle.std.proofs.lemmas.Bool.{and_parts, eqb-false, leb-true, false≢true, cases_Bool, or_left, or_parts, or_right}
+use Rattle.std.proofs.lemmas.Bool.{eqb-false, false≢true, cases_Bool, or_left, or_parts, or_right}
 use Rattle.std.proofs.lemmas.Option.{none-some, same_Some}
-use Rattle.std.specs.Str.Parse.{digits_value}
-use Rattle.value_text.specs.believed.Numbers.{count_of, is_digits}
+use Rattle.value_text.specs.believed.Numbers.{count_of}
 use Rattle.value_text.specs.believed.Texts.{is_same_text}
+use Rattle.value_text.proofs.NumberLemmas.{count_within}
 use Rattle.cov_model.specs.believed.Names.{is_mark}
 use Rattle.model_lex.specs.believed.Sections.{has_colon}
 use Rattle.definitions.specs.believed.Settings.{OrderWord, OrderOf, OrderMax, Setting, Order, Separator, Alias, Prefix, SeedFile, ShuffleValues, ShuffleBy, AnyShuffle}
@@ -55,20 +55,6 @@ read : {X : Type 0} (f : X → Setting) (o : Option X) (s : Setting) → ((x : X
 read f None s k h = absurd (none-some s h)
 read f (Some x) s k h = subst IsInRange (same_Some (f x) s h) (k x refl)
 
-within : (text : List ℕ) (least most n : ℕ) → count_of text least most ≡ Some n → (least ≤ n) × (n ≤ most)
-within text least most n h = decide (is_digits text && nat_le (length text) 20 && nat_le least value && nat_le value most) refl
-  where
-    value : ℕ
-    value = digits_value 10 text
-
-    decide : (b : Bool) → (is_digits text && nat_le (length text) 20 && nat_le least value && nat_le value most) ≡ b → (least ≤ n) × (n ≤ most)
-    decide true t =
-        let last = and_parts (is_digits text && nat_le (length text) 20 && nat_le least value) (nat_le value most) t in
-        let first = and_parts (is_digits text && nat_le (length text) 20) (nat_le least value) last.0 in
-        let same : value ≡ n = same_Some value n (sym (ap (λ b. if b then Some value else None) t) ∙ h) in
-        (subst (λ k. least ≤ k) same (leb-true least value first.1), subst (λ k. k ≤ most) same (leb-true value most last.1))
-    decide false t = absurd (none-some n (sym (ap (λ b. if b then Some value else None) t) ∙ h))
-
 is_mark_of : (value : List ℕ) (c : ℕ) → mark_of value ≡ Some c → is_mark c ≡ true
 is_mark_of [] c h = absurd (none-some c h)
 is_mark_of (d ∷ []) c h = decide (is_mark d) refl
@@ -85,7 +71,7 @@ is_order value order h =
   where
     number : (o : Option ℕ) → count_of value 1 256 ≡ o → option_map OrderOf o ≡ Some order → IsOrder (order_word order)
     number None e k = absurd (none-some order k)
-    number (Some n) e k = subst (λ o. IsOrder (order_word o)) (same_Some (OrderOf n) order k) (within value 1 256 n e).0
+    number (Some n) e k = subst (λ o. IsOrder (order_word o)) (same_Some (OrderOf n) order k) (count_within value 1 256 n e).0
 
 valued : (word value : List ℕ) (s : Setting) → valued_setting word value ≡ Some s → IsInRange s
 valued word value s h =
@@ -96,7 +82,7 @@ valued word value s h =
     (either P (is_named word (codes "/n")) _ _ s (read Prefix (mark_of value) s (is_mark_of value))
     (either P (is_named word (codes "/e")) _ _ s (read SeedFile (file_of value) s (λ x e. tt))
     (either P (is_named word (codes "/r")) _ _ s (read (λ n. ShuffleValues (ShuffleBy n)) (count_of value 0 (2 ^ 64 - 1)) s (λ x e. tt))
-    (either P (is_named word (codes "/workers")) _ _ s (read Workers (count_of value 1 64) s (within value 1 64))
+    (either P (is_named word (codes "/workers")) _ _ s (read Workers (count_of value 1 64) s (count_within value 1 64))
     (either P (is_named word (codes "/budget")) _ _ s (read Budget (effort_of value) s (λ x e. tt))
     (either P (is_named word (codes "/proof")) _ _ s (read ProofFile (file_of value) s (λ x e. tt))
     (either P (is_named word (codes "/proofformat")) _ _ s (read ProofFormat (count_of value 1 2) s (λ x e. tt))

@@ -1,8 +1,8 @@
 -- A stable sort by falling weight gives the one list that is sorted so and keeps the order of ties.
-use Rattle.std.proofs.Common.{◌≡◌, ℕ, suc, ◌<◌, ◌≤◌, Bool, true, false, not, ◌&&◌, cond, if◌then◌else◌, List, [], ◌∷◌, length, get_or, nat_eq, nat_le, filter, ◌∙◌, sym, ap, refl, arith, add-one}
+use Rattle.std.proofs.Common.{◌≡◌, ℕ, suc, ◌<◌, ◌≤◌, Bool, true, false, not, ◌&&◌, cond, List, [], ◌∷◌, length, get_or, nat_eq, nat_le, filter, ◌∙◌, sym, ap, refl, arith, add-one}
 use Rattle.std.specs.Ordering.{is_lt, nat_cmp}
 use Rattle.std.specs.List.Sorted.{IsSortedBy, IsStableBy, ties}
-use Rattle.std.proofs.lemmas.Bool.{false≢true, eqb-true}
+use Rattle.std.proofs.lemmas.Bool.{false≢true, eqb-true, cond_both}
 use Rattle.std.proofs.lemmas.Bool.Decides.{nat_tests}
 use Rattle.std.proofs.lemmas.List.Elements.{filter_agree}
 use Rattle.std.proofs.lemmas.Map.Keys.{ge_from_not_lt}
@@ -13,11 +13,6 @@ tied weight x y = nat_eq (weight x) (weight y)
 
 itself : (weight : ℕ → ℕ) (x : ℕ) → tied weight x x ≡ true
 itself weight x = grind (arith, nat_tests)
-
--- a choice between two lists
-choose : (P : List ℕ → Type 0) (b : Bool) (xs ys : List ℕ) → (b ≡ true → P xs) → (b ≡ false → P ys) → P (if b then xs else ys)
-choose P true xs ys first second = first refl
-choose P false xs ys first second = second refl
 
 passed_by : (a b : Bool) (v w : ℕ) (inserted kept : List ℕ) → inserted ≡ cond a (v ∷ kept) kept → (a ≡ true → b ≡ false)
     → cond b (w ∷ inserted) inserted ≡ cond a (v ∷ cond b (w ∷ kept) kept) (cond b (w ∷ kept) kept)
@@ -34,8 +29,8 @@ filter-insert_by_weight : (weight : ℕ → ℕ) (x v : ℕ) (ys : List ℕ)
     → filter (tied weight x) (insert_by_weight weight v ys) ≡ filter (tied weight x) (v ∷ ys)
 filter-insert_by_weight weight x v [] = refl
 filter-insert_by_weight weight x v (w ∷ rest) =
-    choose (λ l. filter (tied weight x) l ≡ filter (tied weight x) (v ∷ w ∷ rest)) (nat_le (weight w) (weight v)) (v ∷ w ∷ rest)
-    (w ∷ insert_by_weight weight v rest)
+    cond_both (nat_le (weight w) (weight v)) (v ∷ w ∷ rest) (w ∷ insert_by_weight weight v rest)
+    (λ l. filter (tied weight x) l ≡ filter (tied weight x) (v ∷ w ∷ rest))
     (λ lighter. refl)
     (λ heavier.
     passed_by (tied weight x v) (tied weight x w) v w (filter (tied weight x) (insert_by_weight weight v rest)) (filter (tied weight x) rest)
@@ -59,7 +54,7 @@ AreAtMost-more weight m n (y ∷ ys) below h = (omega (arith, h.0), AreAtMost-mo
 AreAtMost-insert : (weight : ℕ → ℕ) (n v : ℕ) (ys : List ℕ) → weight v ≤ n → AreAtMost weight n ys → AreAtMost weight n (insert_by_weight weight v ys)
 AreAtMost-insert weight n v [] here h = (here, tt)
 AreAtMost-insert weight n v (w ∷ rest) here h =
-    choose (AreAtMost weight n) (nat_le (weight w) (weight v)) (v ∷ w ∷ rest) (w ∷ insert_by_weight weight v rest)
+    cond_both (nat_le (weight w) (weight v)) (v ∷ w ∷ rest) (w ∷ insert_by_weight weight v rest) (AreAtMost weight n)
     (λ lighter. (here, h)) (λ heavier. (h.0, AreAtMost-insert weight n v rest here h.1))
 
 abbrev IsFalling : (ℕ → ℕ) → List ℕ → Type 0
@@ -69,7 +64,7 @@ IsFalling weight (y ∷ ys) = AreAtMost weight (weight y) ys × IsFalling weight
 IsFalling-insert : (weight : ℕ → ℕ) (v : ℕ) (ys : List ℕ) → IsFalling weight ys → IsFalling weight (insert_by_weight weight v ys)
 IsFalling-insert weight v [] h = (tt, tt)
 IsFalling-insert weight v (w ∷ rest) h =
-    choose (IsFalling weight) (nat_le (weight w) (weight v)) (v ∷ w ∷ rest) (w ∷ insert_by_weight weight v rest)
+    cond_both (nat_le (weight w) (weight v)) (v ∷ w ∷ rest) (w ∷ insert_by_weight weight v rest) (IsFalling weight)
     (λ lighter.
     let below : weight w ≤ weight v = grind (arith, nat_tests) in
     ((below, AreAtMost-more weight (weight w) (weight v) rest below h.0), h))

@@ -9,12 +9,13 @@ use Rattle.definitions.specs.believed.Figures as defined
 use Rattle.tuple_index.specs.Plan.{PlanView, plan_of, set_at}
 use Rattle.shared_marks.specs.Served.{base_of}
 use Rattle.shared_marks.proofs.PlaceLemmas.{all_places}
+use Rattle.shared_marks.proofs.SetMarks.{set_marks}
 use Rattle.coverage_measure.specs.declared.set_figures.SetFigures.{SetFigures}
 use Rattle.coverage_measure.specs.declared.suite_rows.RowCounts.{RowCounts}
 use Rattle.coverage_measure.specs.SetFigures.{set_figures, with_set}
 use Rattle.coverage_measure.specs.SuiteRows.{row_counts}
-use Rattle.coverage_measure.proofs.MarkLemmas.{count_marks, set_marks}
 use Rattle.coverage_measure.proofs.SetLemmas.{figures_more}
+use Rattle.value_text.proofs.ListLemmas.{count_marks}
 
 -- how many marks of a set of a plan are set
 abbrev pub marked : PlanView → List Bool → ℕ → ℕ

@@ -1,6 +1,5 @@
 pub mod RowLemmas
 pub mod SetLemmas
-pub mod MarkLemmas
 pub mod EndLemmas
 pub mod ValueLemmas
 pub mod QuestionLemmas

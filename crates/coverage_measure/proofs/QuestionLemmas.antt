@@ -18,8 +18,8 @@ use Rattle.definitions.proofs.InPlay.{IsTupleOf, tuple_is}
 use Rattle.definitions.proofs.Members.{Has, among_has}
 use Rattle.definitions.proofs.Serving.{servable_are_extendable}
 use Rattle.definitions.proofs.SliceLemmas.{has_slices, slice_is, value_exists}
+use Rattle.definitions.proofs.SliceValues.{slice_exists}
 use Rattle.feasibility.proofs.Extendable.{plain_search_is_exact}
-use Rattle.feasibility.proofs.Paths.{slice_exists}
 use Rattle.coverage_measure.specs.Asking.{is_above, is_found, tally}
 
 -- a tuple of a set in a slice is a partial row of the slice

@@ -6,6 +6,7 @@ use Rattle.std.specs.List.{flat_map}
 use Rattle.std.proofs.Math.Seq.{set-append_seam}
 use Rattle.std.proofs.lemmas.Bool.{cases_eq, eq-eqb, false≢true, or_left}
 use Rattle.std.proofs.lemmas.List.{append_assoc, get_or-set_other, get_or-set_same, map-id}
+use Rattle.std.proofs.lemmas.Simd.{map-map}
 use Rattle.cov_model.specs.declared.slice.Slice.{Slice}
 use Rattle.cov_model.specs.declared.slice.Slice.TheVariants.{Positive, Negative}
 use Rattle.cov_model.specs.believed.Sound.{ModelView}
@@ -16,11 +17,11 @@ use Rattle.definitions.specs.believed.Demand.{is_among, tuples_in, value_choices
 use Rattle.definitions.specs.SliceRows.{IsSliceOf}
 use Rattle.definitions.proofs.Members.{of_among}
 use Rattle.definitions.proofs.SliceLemmas.{value_exists}
+use Rattle.definitions.proofs.SliceValues.{slice_exists}
 use Rattle.feasibility.specs.Tree.{no_values}
 use Rattle.feasibility.proofs.Nodes.{FitsModel-with_value}
-use Rattle.feasibility.proofs.Paths.{slice_exists}
 use Rattle.tuple_index.specs.Places.{RisesFrom, has_part}
-use Rattle.tuple_index.proofs.ListingLemmas.{apart_test, flat_map_same, map_flat_map, map_map, map_same, not_among_before, rises_lower}
+use Rattle.tuple_index.proofs.ListingLemmas.{apart_test, flat_map_same, map_flat_map, map_same, not_among_before, rises_lower}
 use Rattle.tuple_index.proofs.TupleLemmas.{among_more}
 use Rattle.coverage_measure.specs.Asking.{IsBefore, with_values}
 
@@ -63,7 +64,7 @@ choices_none lists rest set params values before p none later =
     let left : value_choices set p (values ∷ rest) ≡ map (λ cells. None ∷ cells) choices = rw none refl in
     ap (with_values lists params) (sym (front (replicate (length rest) None))) ∙ later
     ∙ map_same (λ cells. (before ++ None ∷ []) ++ cells) (λ cells. before ++ None ∷ cells) choices front
-    ∙ sym (map_map (λ cells. before ++ cells) (λ cells. None ∷ cells) choices) ∙ ap (map (λ cells. before ++ cells)) (sym left)
+    ∙ sym (map-map (λ cells. before ++ cells) (λ cells. None ∷ cells) choices) ∙ ap (map (λ cells. before ++ cells)) (sym left)
 
 -- or each of the listed ones
 choices_some : (lists rest : List (List ℕ)) (set params values : List ℕ) (before : List (Option ℕ)) (p : ℕ) → length before ≡ p → is_among set p ≡ true
@@ -96,7 +97,7 @@ choices_some lists rest set params values before p long among own later =
     each v =
         ap (with_values lists params) (put v) ∙ later v
         ∙ map_same (λ cells. (before ++ Some v ∷ []) ++ cells) (λ cells. before ++ Some v ∷ cells) choices (front v)
-        ∙ sym (map_map (λ cells. before ++ cells) (λ cells. Some v ∷ cells) choices)
+        ∙ sym (map-map (λ cells. before ++ cells) (λ cells. Some v ∷ cells) choices)
 
 -- the parameters from number p on, of which these are the set's, get values behind those before
 choices_behind : (lists rest : List (List ℕ)) (set params : List ℕ) (before : List (Option ℕ)) (p e : ℕ) → length before ≡ p → e ≡ p + length rest

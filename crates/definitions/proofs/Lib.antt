@@ -51,3 +51,5 @@ pub mod PairLists
 pub mod NamedPairs
 pub mod TreeTokens
 pub mod SuiteLaws
+pub mod SliceValues
+pub mod SameRows

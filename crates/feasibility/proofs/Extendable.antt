@@ -7,7 +7,6 @@ use Rattle.std.proofs.lemmas.List.{get_or-set_other, get_or-set_same, get_or_pas
 use Rattle.std.proofs.lemmas.List.Folds.{list_any_at}
 use Rattle.std.proofs.lemmas.List.Sorted.{list_any-IsPermutation}
 use Rattle.std.proofs.lemmas.List.FromFn.{length-range_with_len, get_or-range_with_len, length-map-range_with_len, get_or-map-range_with_len}
-use Rattle.std.proofs.Math.Bool.{or-false}
 use Rattle.cov_model.specs.declared.slice.Slice.{Slice}
 use Rattle.cov_model.specs.declared.slice.Slice.TheVariants.{Positive, Negative}
 use Rattle.cov_model.specs.believed.Sound.{ModelView, IsSound, param_at}
@@ -220,34 +219,6 @@ plain_search_is_exact m pref slice cells sound are is of =
           ∙ sym (ap (λ (o : Option (List (Option ℕ))). is_some o) (plain_search_gives m pref slice cells sound are is of)) ∙ whole,
       whole,
     )
-
--- whether a value is one of a slice
-listed_positive : (m : ModelView) (p v : ℕ) → p < length m.params → v < length (param_at m.params p).values
-    → is_among (get_or (map (positive_values m) (param_numbers m)) p []) v ≡ not (value_at m p v).negative
-listed_positive m p v within exists =
-    ap (λ (values : List ℕ). is_among values v) (get_or-map-range_with_len (positive_values m) 0 (length m.params) p p [] within (zero-add p))
-    ∙ same_answer (is_among (positive_values m p) v) (not (value_at m p v).negative)
-    (λ listed. among_filter_test (λ w. not (value_at m p w).negative) v (value_numbers m p) listed)
-    (λ positive. among_filter_in (λ w. not (value_at m p w).negative) v (value_numbers m p) positive
-    (among_range (length (param_at m.params p).values) v exists))
-
-pub slice_positive : (m : ModelView) (p v : ℕ) → p < length m.params → v < length (param_at m.params p).values
-    → not (value_at m p v).negative ≡ is_among (get_or (slice_values m Positive) p []) v
-slice_positive m p v within exists = sym (listed_positive m p v within exists)
-
-pub slice_other : (m : ModelView) (q w p v : ℕ) → (q ≡ p → ⊥) → p < length m.params → v < length (param_at m.params p).values
-    → not (value_at m p v).negative ≡ is_among (get_or (slice_values m (Negative q w)) p []) v
-slice_other m q w p v differs within exists =
-    sym (ap (λ (values : List ℕ). is_among values v) (get_or-set_other (map (positive_values m) (param_numbers m)) q p (w ∷ []) [] (λ e. differs (sym e)))
-    ∙ listed_positive m p v within exists)
-
-pub slice_fixed : (m : ModelView) (q w p v : ℕ) → q ≡ p → p < length m.params → (w == v) ≡ is_among (get_or (slice_values m (Negative q w)) p []) v
-slice_fixed m q w p v same within =
-    let here : get_or (slice_values m (Negative q w)) p [] ≡ w ∷ [] =
-    ap (λ (k : ℕ). get_or (slice_values m (Negative k w)) p []) same
-    ∙ get_or-set_same (map (positive_values m) (param_numbers m)) p (w ∷ []) []
-    (omega (arith, length-map-range_with_len (positive_values m) 0 (length m.params))) in
-    sym (ap (λ (values : List ℕ). is_among values v) here ∙ or-false (w == v))
 
 -- what a search over a solver's values answers is what is asked of the solver
 pub solver_asks : (solver : SolverView) (lists : List (List ℕ)) (room : List (Option ℕ)) (fails : Bool) (sets : LiveView) (cells : List (Option ℕ))

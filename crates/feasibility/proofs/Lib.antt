@@ -27,3 +27,4 @@ pub mod SameTrees
 pub mod KeptTrees
 pub mod TwoFree
 pub mod SafeValues
+pub mod FullEffort

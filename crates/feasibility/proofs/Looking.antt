@@ -1,7 +1,7 @@
 -- What looking at constraints takes away, and when it stops.
 use Rattle.std.proofs.Common.{◌≡◌, ◌≢◌, ℕ, ◌<◌, ◌≤◌, Bool, true, false, not, ◌&&◌, ◌||◌, ◌==◌, List, [], ◌∷◌, ◌++◌, length, Option, Some, get_or, ◌∙◌, sym, ap, subst, refl, arith, inl, inr}
 use Rattle.std.specs.List.{count_by, range_with_len}
-use Rattle.std.proofs.Math.Bool.{and-true}
+use Rattle.std.proofs.Math.Bool.{and-true, or-false}
 use Rattle.std.proofs.lemmas.Bool.{false≢true, cases_Bool, cases_eq, and_left, or_from, false_from_ne_true, ne_eqb}
 use Rattle.std.proofs.lemmas.List.Folds.{list_any-append}
 use Rattle.cov_model.specs.believed.Sound.{ModelView, param_at}
@@ -205,17 +205,13 @@ ahead_all m k cells done old new unbroken whole to = record {
   marks = λ q w low inside free.
       to.marks q w low inside free
       ∙ ap (λ (b : Bool). mark_at old.live q w && not b) (elim (cases_Bool (is_among done q)) [
-        | inl among ↦ ap (λ (b : Bool). b && no_on m (with_value cells q w) k) among ∙ or_none (no_on m (with_value cells q w) k)
+        | inl among ↦ ap (λ (b : Bool). b && no_on m (with_value cells q w) k) among ∙ sym (or-false (no_on m (with_value cells q w) k))
         | inr away ↦ and_left (is_among done q) (no_on m (with_value cells q w) k) away ∙ sym (ap (λ (b : Bool). b || false) (same q w low away))
       ]);
   left = to.left;
   since = to.since;
 }
   where
-    or_none : (b : Bool) → b ≡ (b || false)
-    or_none true = refl
-    or_none false = refl
-
     same : (q w : ℕ) → q < length m.params → is_among done q ≡ false → no_on m (with_value cells q w) k ≡ false
     same q w low away =
         let unnamed : is_among (body_params (rule_at m k).body) q ≡ false =

@@ -7,6 +7,7 @@ use Rattle.std.proofs.Math.Numerals.{add-one}
 use Rattle.std.proofs.lemmas.Option.{slice_get-get_or}
 use Rattle.std.proofs.lemmas.Bool.{false≢true, cases_Bool, cases_eq, and_parts, cases_lt, false_from_ne_true, leb-true, not-false, not-true}
 use Rattle.std.proofs.lemmas.List.{get_or-set_other, get_or-set_same, length-replicate}
+use Rattle.std.proofs.Math.Bool.{and-true}
 use Rattle.value_text.proofs.ListLemmas.{Some-unwrap_or, none_at, nothing_found}
 use Rattle.cov_model.specs.declared.slice.Slice.{Slice}
 use Rattle.cov_model.specs.declared.slice.Slice.TheVariants.{Positive, Negative}
@@ -24,14 +25,15 @@ use Rattle.definitions.specs.believed.Refutation.{is_negative_leaf, is_omission_
 use Rattle.definitions.specs.believed.Search.{breaks_a_rule}
 use Rattle.definitions.specs.SliceRows.{IsOfSlice, IsSliceOf}
 use Rattle.definitions.proofs.Members.{Has, all_members, any_member, of_among, of_any, same_answer}
-use Rattle.definitions.proofs.SliceLemmas.{HasFixed, IsSlice, has_negatives, of_negatives, slice_is}
+use Rattle.definitions.proofs.SliceLemmas.{HasFixed, has_negatives, of_negatives, slice_is}
+use Rattle.definitions.proofs.SliceValues.{slice_exists, slice_other, slice_positive}
 use Rattle.live_sets.specs.Trail.{LiveView, mark_at}
 use Rattle.feasibility.specs.Live.{HasUnmarked, ShowsFailure, ShowsLive}
 use Rattle.feasibility.specs.Refuting.{IsPath, IsRefuter, RefuterView, TriesPositive, fixed_params, is_cited}
 use Rattle.feasibility.specs.Solving.{IsSolver, SolverView}
 use Rattle.feasibility.specs.Tree.{IsListed, no_values}
 use Rattle.feasibility.proofs.Broken.{broken_stays, longer_alone, longer_none, longer_with}
-use Rattle.feasibility.proofs.Extendable.{preferred_listed, slice_listed, slice_other, slice_positive}
+use Rattle.feasibility.proofs.Extendable.{preferred_listed, slice_listed}
 use Rattle.feasibility.proofs.NarrowedSets.{count_none}
 use Rattle.feasibility.proofs.Nodes.{FitsModel-with_value}
 use Rattle.feasibility.proofs.TuplePairs.{gives_pair, has_param}
@@ -122,12 +124,8 @@ gives_fixed r slice p v pairs is fixed =
     let one : negatives r.model r.tuple ≡ p ∷ [] = is.fixed ∙ ap fixed_params fixed in
     let within = (of_negatives r.model r.tuple p (subst (λ (ps : List ℕ). Has ps p) (sym one) (inl refl))).within in
     sym (gives_pair (length r.model.params) pairs p within)
-    ∙ and_one (is_assigned (cells_of (length r.model.params) pairs) p)
+    ∙ sym (and-true (is_assigned (cells_of (length r.model.params) pairs) p))
     ∙ ap (list_all (is_assigned (cells_of (length r.model.params) pairs))) (sym one)
-  where
-    and_one : (b : Bool) → b ≡ (b && true)
-    and_one true = refl
-    and_one false = refl
 
 pub gives_none : (r : RefuterView) (slice : Slice) (pairs : List (ℕ × ℕ)) → IsRefuter r slice → slice ≡ Positive
     → true ≡ list_all (is_assigned (cells_of (length r.model.params) pairs)) (negatives r.model r.tuple)
@@ -225,10 +223,6 @@ negatives_by m slice cells ps few is = by_list ps few ∙ ap fixed_params is
     by_list [] few = refl
     by_list (p ∷ []) few = refl
     by_list (p ∷ q ∷ ps) few = absurd (omega arith)
-
-pub slice_exists : (m : ModelView) (slice : Slice) → IsSliceOf m slice → IsSlice m slice
-slice_exists m Positive is = tt
-slice_exists m (Negative q v) is = (is.0, is.2)
 
 -- the tuple of a slice gives its fixed parameter a value
 slice_fixes : (m : ModelView) (slice : Slice) (cells : List (Option ℕ)) → slice_of m cells ≡ slice → HasFixed slice cells

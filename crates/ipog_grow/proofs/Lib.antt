@@ -7,7 +7,6 @@ pub mod Seeding
 pub mod SliceSteps
 pub mod Spending
 pub mod Completed
-pub mod SameRows
 pub mod InPlace
 pub mod Rising
 pub mod Fingerprints

@@ -18,9 +18,9 @@ use Rattle.ipog_grow.specs.Omissions.{IsOmittedIn, IsOmittedTuple}
 use Rattle.cov_model.specs.believed.Tuples.{cells_of}
 use Rattle.definitions.specs.believed.Pairs.{pairs_of}
 use Rattle.definitions.proofs.PairLists.{cells_of-pairs}
+use Rattle.definitions.proofs.SliceValues.{slice_exists}
 use Rattle.ipog_grow.proofs.Spending.{find-none}
 use Rattle.ipog_grow.proofs.Tuples.{tuple-grows}
-use Rattle.feasibility.proofs.Paths.{slice_exists}
 
 -- what holds of a tuple that isn't extendable, and was asked at no more than a question may cost, holds of those that vertical growth
 -- omits

@@ -8,7 +8,8 @@ use Rattle.std.proofs.lemmas.List.Elements.{filter-append}
 use Rattle.std.proofs.lemmas.List.Sums.{take_while-cons}
 use Rattle.std.proofs.lemmas.List.Folds.{flat_map-map}
 use Rattle.std.proofs.lemmas.List.Concat.{length-flat_map}
-use Rattle.value_text.proofs.ListLemmas.{map-get_or-range_with_len}
+use Rattle.std.proofs.lemmas.Simd.{map-map}
+use Rattle.value_text.proofs.ListLemmas.{map-get_or-range_with_len, filter-map}
 use Rattle.uncovered_table.proofs.ChoiceLemmas.{same_slice, slice_listed}
 use Rattle.cov_model.specs.declared.slice.Slice.{Slice}
 use Rattle.cov_model.specs.believed.Sound.{ModelView}
@@ -16,9 +17,8 @@ use Rattle.cov_model.specs.believed.Slices.{slices}
 use Rattle.definitions.specs.believed.Demand.{demanded_sets, tuples_in}
 use Rattle.definitions.specs.believed.Growth.{tuples_in_play}
 use Rattle.definitions.specs.SliceRows.{IsSliceOf}
-use Rattle.tuple_index.proofs.ListingLemmas.{flat_map_same, map_map, map_flat_map}
+use Rattle.tuple_index.proofs.ListingLemmas.{flat_map_same, map_flat_map}
 use Rattle.uncovered_table.specs.Places.{set_at, tuple_at, is_slice, slice_start, places_in, slice_places, ends_with_column, is_in_play}
-use Rattle.ipog_grow.proofs.Lists.{filter-map}
 
 -- a part of a list, read place by place
 read_at : {X : Type 0} (a : List X) (x : X) (c : List X) (d : X) → get_or (a ++ x ∷ c) (length a) d ≡ x
@@ -66,7 +66,7 @@ tuples_at m slice set is =
     let parts = pieces (tuples_in m (set_at m set)) (λ other. is_slice other slice) (slices m) slice (λ other test. same_slice other slice test)
     (slice_listed m slice is) in
     let before : List (List (Option ℕ)) = flat_map (tuples_in m (set_at m set)) (take_while (λ other. not (is_slice other slice)) (slices m)) in
-    map_map (tuple_at m) (λ rank. (set, rank)) (range_with_len (slice_start m (set_at m set) slice) (length (tuples_in m (set_at m set) slice)))
+    map-map (tuple_at m) (λ rank. (set, rank)) (range_with_len (slice_start m (set_at m set) slice) (length (tuples_in m (set_at m set) slice)))
     ∙ ap (λ (tuples : List (List (Option ℕ))). map (λ rank. get_or tuples rank [])
     (range_with_len (slice_start m (set_at m set) slice) (length (tuples_in m (set_at m set) slice)))) parts.whole
     ∙ ap (λ (n : ℕ). map (λ rank. get_or (before ++ (tuples_in m (set_at m set) slice ++ parts.rest)) rank [])

@@ -17,12 +17,12 @@ use Rattle.definitions.proofs.Members.{of_among}
 use Rattle.definitions.proofs.Serving.{served_extends}
 use Rattle.definitions.proofs.SliceLemmas.{InSlice, slice_is}
 use Rattle.definitions.proofs.SliceLemmas as slices
+use Rattle.definitions.proofs.SliceValues.{slice_exists}
 use Rattle.full_search.specs.Questions.{QuestionsView}
 use Rattle.ipog_grow.specs.Asking.{IsSoundContext}
 use Rattle.ipog_grow.specs.Growing.{GrowsIn, HasFixed}
 use Rattle.ipog_grow.specs.Omissions.{IsOmittedIn}
 use Rattle.ipog_grow.proofs.Tuples.{grows-slice}
-use Rattle.feasibility.proofs.Paths.{slice_exists}
 
 -- a partial row that grows in a slice belongs to it
 grows-belongs : (m : ModelView) (slice : Slice) (cells : List (Option ℕ)) → GrowsIn m slice cells → InSlice m slice cells

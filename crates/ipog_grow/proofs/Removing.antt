@@ -5,7 +5,7 @@ use Rattle.std.proofs.lemmas.List.Elements.{All-push}
 use Rattle.definitions.specs.believed.Seeds.{distinct}
 use Rattle.ipog_grow.specs.Rows.{AreAsLong, AreDone, is_known_row, with_row}
 use Rattle.ipog_grow.proofs.InPlace.{done-more, done-none, done-read}
-use Rattle.ipog_grow.proofs.SameRows.{distinct_by-push}
+use Rattle.definitions.proofs.SameRows.{distinct_by-push}
 
 abbrev IsLong : List (List (Option ℕ)) → List (Option ℕ) → Type 0
 IsLong start row = length row ≡ length (get_or start 0 [])

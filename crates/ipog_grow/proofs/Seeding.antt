@@ -1,9 +1,9 @@
 -- Seed rows one after another, and the slices that they belong to.
 use Rattle.std.proofs.Common.{◌≡◌, ℕ, ◌+◌, ◌<◌, Bool, true, false, cond, not, ◌||◌, List, [], ◌∷◌, ◌++◌, map, length, filter, Option, is_some, All, inl, inr, ◌∙◌, sym, ap, subst, refl, arith}
-use Rattle.std.specs.List.{list_any, range_with_len}
+use Rattle.std.specs.List.{list_any}
 use Rattle.std.proofs.lemmas.Bool.{cases_eq, leb-true}
 use Rattle.std.proofs.lemmas.Bool.Decides.{Decides-eqb}
-use Rattle.std.proofs.lemmas.List.{map-append, append-nil, length-append}
+use Rattle.std.proofs.lemmas.List.{map-append, append-nil}
 use Rattle.std.proofs.lemmas.List.Elements.{filter-append, All-nil, All-cons, All-head, All-tail, All-filter}
 use Rattle.cov_model.proofs.CellLemmas.{assigned_within}
 use Rattle.cov_model.specs.believed.Sound.{ModelView}
@@ -16,11 +16,10 @@ use Rattle.definitions.specs.believed.Seeds.{is_same_row, distinct_by, seed_rows
 use Rattle.definitions.specs.SliceRows.{IsSliceOf}
 use Rattle.definitions.proofs.Members.{Has}
 use Rattle.definitions.proofs.SliceLemmas.{is_negative, of_negatives, has_negatives, IsNegativeAt, negative_exists}
-use Rattle.feasibility.proofs.Extendable.{slice_positive, slice_other, slice_fixed}
+use Rattle.definitions.proofs.SliceValues.{slice_positive, slice_other, slice_fixed}
 use Rattle.ipog_grow.specs.Growing.{GrowsIn}
 use Rattle.ipog_grow.specs.Rows.{is_known_row, with_row, with_seed}
-use Rattle.ipog_grow.proofs.SliceSteps.{range-more}
-use Rattle.ipog_grow.proofs.SameRows.{distinct_by-push, has_same}
+use Rattle.definitions.proofs.SameRows.{distinct_by-push, has_same}
 
 -- the slice of a partial row is one of the model's
 pub slice_of-is : (m : ModelView) (cells : List (Option ℕ)) → IsSliceOf m (slice_of m cells)
@@ -117,16 +116,6 @@ gathered-next seeds x known known' list list' knows lists adds puts =
         ≡ filter gives (cond b first (first ++ x ∷ []))
     passing true first = refl
     passing false first = last (gives x) (filter gives first) ∙ sym (filter-append gives first (x ∷ []))
-
--- how many numbers below one pass
-pub passing-count : (test : ℕ → Bool) (n : ℕ) → length (filter test (range_with_len 0 (n + 1))) ≡ length (filter test (range_with_len 0 n)) + cond (test n) 1 0
-passing-count test n =
-    ap (λ ks. length (filter test ks)) (range-more n) ∙ ap length (filter-append test (range_with_len 0 n) (n ∷ []))
-    ∙ length-append (filter test (range_with_len 0 n)) (cond (test n) (n ∷ []) []) ∙ ap (λ k. length (filter test (range_with_len 0 n)) + k) (at (test n))
-  where
-    at : (b : Bool) → length (cond b (n ∷ []) []) ≡ cond b 1 0
-    at true = refl
-    at false = refl
 
 distinct_fit : (P : Seed → Type 0) (seeds : List Seed) → All P seeds → All P (distinct_by row seeds)
 distinct_fit P [] all = All-nil P

@@ -9,7 +9,7 @@ use Rattle.std.proofs.lemmas.List.{length-map}
 use Rattle.std.proofs.lemmas.List.Elements.{All-nil, All-cons, All-append, All-head, All-tail, All-weaker, All-filter}
 use Rattle.std.proofs.Math.Bool.{and-false, or-true}
 use Rattle.uncovered_table.proofs.BitLemmas.{same_places}
-use Rattle.value_text.proofs.ListLemmas.{filter_same, filter-filter, filter_swap, filter_all}
+use Rattle.value_text.proofs.ListLemmas.{filter_same, filter-filter, filter_swap, filter_all, filter-map}
 use Rattle.cov_model.specs.declared.slice.Slice.{Slice}
 use Rattle.cov_model.specs.believed.Sound.{ModelView}
 use Rattle.cov_model.specs.believed.Rows.{contains, with_value}
@@ -20,7 +20,7 @@ use Rattle.definitions.specs.SliceRows.{IsSliceOf}
 use Rattle.uncovered_table.specs.Open.{OpenView, all_open, closed, is_after, is_held, row_closed, gain, next_open}
 use Rattle.uncovered_table.specs.Places.{set_at, tuple_at, slice_start, places_in, slice_places, is_in_play, is_behind, is_place}
 use Rattle.ipog_grow.specs.Growing.{open_places, open_tuples, Rises}
-use Rattle.ipog_grow.proofs.Lists.{filter-map, find-filter}
+use Rattle.ipog_grow.proofs.Lists.{find-filter}
 use Rattle.ipog_grow.proofs.Places.{places_in_play}
 
 -- at first all tuples in play are open

@@ -24,12 +24,12 @@ use Rattle.definitions.specs.believed.Demand.{is_among, demanded_sets, tuples_in
 use Rattle.definitions.specs.believed.Completion.{column_order}
 use Rattle.definitions.specs.believed.Growth.{union, tuples_in_play}
 use Rattle.definitions.specs.SliceRows.{IsSliceOf, IsOfSlice}
-use Rattle.feasibility.proofs.Extendable.{slice_exist, among_range_below, slice_positive, slice_other, slice_fixed}
+use Rattle.definitions.proofs.SliceValues.{slice_positive, slice_other, slice_fixed, slice_exists}
+use Rattle.feasibility.proofs.Extendable.{slice_exist, among_range_below}
 use Rattle.uncovered_table.specs.Places.{ends_with_column}
 use Rattle.ipog_grow.specs.Growing.{HasFixed, GrowsIn, IsInPlay}
 use Rattle.ipog_grow.proofs.ColumnLemmas.{ends-columns_to}
 use Rattle.ipog_grow.proofs.Falling.{filter-none}
-use Rattle.feasibility.proofs.Paths.{slice_exists}
 
 -- cells of a model's length whose values are of the slice are of it
 pub of_slice : (m : ModelView) (slice : Slice) (cells : List (Option ℕ)) → IsSliceOf m slice → length cells ≡ length m.params

@@ -1,13 +1,13 @@
 -- What words ask for is in its ranges.
-use Rattle.std.proofs.Common.{◌≡◌, ◌∙◌, ◌≤◌, ◌&&◌, ◌∷◌, ℕ, Bool, true, false, not, List, [], Option, None, Some, length, refl, sym, ap, subst, if◌then◌else◌, option_map, arith}
-use Rattle.std.specs.Prelude.{codes, is_none, nat_le, unwrap_or}
+use Rattle.std.proofs.Common.{◌≡◌, ◌∙◌, ◌≤◌, ◌&&◌, ◌∷◌, ℕ, Bool, true, false, not, List, [], Option, None, Some, refl, sym, ap, subst, if◌then◌else◌, option_map, arith}
+use Rattle.std.specs.Prelude.{codes, is_none, unwrap_or}
 use Rattle.std.specs.Str.{bytes_eq}
-use Rattle.std.specs.Str.Parse.{digits_value}
-use Rattle.std.proofs.lemmas.Bool.{and_parts, false≢true, leb-true}
+use Rattle.std.proofs.lemmas.Bool.{and_parts, not-true}
 use Rattle.std.proofs.lemmas.Option.{none-some, same_Some}
 use Rattle.clap.specs.Walk.{is_empty}
 use Rattle.clap.specs.Words.{Row, Text, fault_of, subcommand_of}
-use Rattle.value_text.specs.believed.Numbers.{count_of, is_digits}
+use Rattle.value_text.specs.believed.Numbers.{count_of}
+use Rattle.value_text.proofs.NumberLemmas.{count_within}
 use Rattle.jeldroft_args.specs.believed.Names.{overwritten}
 use Rattle.jeldroft_args.specs.believed.Programs.{program_of}
 use Rattle.jeldroft_args.specs.Ranges.{AreMarks, AreThreads, IsInRange, IsStrength}
@@ -33,20 +33,6 @@ read_has P read usual here each (Some text) = go (read text) refl
     go None e = here
     go (Some x) e = each text x e
 
-within : (least most : ℕ) (text : Text) (n : ℕ) → count_of text least most ≡ Some n → (least ≤ n) × (n ≤ most)
-within least most text n h = decide (is_digits text && nat_le (length text) 20 && nat_le least value && nat_le value most) refl
-  where
-    value : ℕ
-    value = digits_value 10 text
-
-    decide : (b : Bool) → (is_digits text && nat_le (length text) 20 && nat_le least value && nat_le value most) ≡ b → (least ≤ n) × (n ≤ most)
-    decide true t =
-        let last = and_parts (is_digits text && nat_le (length text) 20 && nat_le least value) (nat_le value most) t in
-        let first = and_parts (is_digits text && nat_le (length text) 20) (nat_le least value) last.0 in
-        let same : value ≡ n = same_Some value n (sym (ap (λ b. if b then Some value else None) t) ∙ h) in
-        (subst (λ k. least ≤ k) same (leb-true least value first.1), subst (λ k. k ≤ most) same (leb-true value most last.1))
-    decide false t = absurd (none-some n (sym (ap (λ b. if b then Some value else None) t) ∙ h))
-
 is_mark_of : (text : Text) (c : ℕ) → mark_of text ≡ Some c → is_mark c ≡ true
 is_mark_of [] c h = absurd (none-some c h)
 is_mark_of (d ∷ []) c h = decide (is_mark d) refl
@@ -61,7 +47,7 @@ is_strength_of text s h = decide (bytes_eq text (codes "max")) h
   where
     number : (o : Option ℕ) → count_of text 1 256 ≡ o → option_map Number o ≡ Some s → IsStrength s
     number None e k = absurd (none-some s k)
-    number (Some n) e k = subst IsStrength (same_Some (Number n) s k) (within 1 256 text n e)
+    number (Some n) e k = subst IsStrength (same_Some (Number n) s k) (count_within text 1 256 n e)
 
     decide : (b : Bool) → (if b then Some Max else option_map Number (count_of text 1 256)) ≡ Some s → IsStrength s
     decide true k = subst IsStrength (same_Some Max s k) tt
@@ -81,10 +67,10 @@ has_strength : (rows : List Row) → IsStrength (strength_in rows)
 has_strength rows = read_has IsStrength strength_of (Number 2) (omega arith, omega arith) is_strength_of (value_of a.Strength rows)
 
 has_threads : (rows : List Row) → AreThreads (threads_in rows)
-has_threads rows = read_has AreThreads threads_of 1 (omega arith, omega arith) (within 1 64) (value_of a.Threads rows)
+has_threads rows = read_has AreThreads threads_of 1 (omega arith, omega arith) (λ text. count_within text 1 64) (value_of a.Threads rows)
 
 has_length : (rows : List Row) → (2 ≤ length_in rows) × (length_in rows ≤ 3)
-has_length rows = read_has (λ n. (2 ≤ n) × (n ≤ 3)) length_of 2 (omega arith, omega arith) (within 2 3) (value_of a.SequenceLength rows)
+has_length rows = read_has (λ n. (2 ≤ n) × (n ≤ 3)) length_of 2 (omega arith, omega arith) (λ text. count_within text 2 3) (value_of a.SequenceLength rows)
 
 asked_fits : (command : CommandName) (rows : List Row) → has_equal_marks (marks_in rows) ≡ false → IsInRange (asked_of command rows)
 asked_fits Generate rows differ = (has_marks rows differ, has_strength rows, has_threads rows)
@@ -97,15 +83,11 @@ asked_fits Suspect rows differ = (has_marks rows differ, has_strength rows)
 asked_fits Sequence rows differ = has_length rows
 asked_fits Import rows differ = tt
 
-not_true : (b : Bool) → not b ≡ true → b ≡ false
-not_true true h = absurd (false≢true h)
-not_true false h = refl
-
 allowed_differ : (command : CommandName) (rows : List Row) → is_allowed command rows ≡ true → has_equal_marks (marks_in rows) ≡ false
 allowed_differ command rows h =
     let before = is_none (unread command rows) && is_none (unmet_need command rows) && is_none (excluded_pair command rows) && not (reads_input_twice rows) in
     let first = and_parts (before && not (has_equal_marks (marks_in rows))) (is_none (overwritten (names_in inputs rows) (names_in outputs rows))) h in
-    not_true _ (and_parts before (not (has_equal_marks (marks_in rows))) first.0).1
+    not-true _ (and_parts before (not (has_equal_marks (marks_in rows))) first.0).1
 
 -- ---- what words ask for
 

@@ -1,10 +1,10 @@
 -- From clap's answer to what the words ask for.
-use Rattle.std.proofs.Common.{◌≡◌, ◌∙◌, ◌⊎◌, ◌&&◌, ◌||◌, ◌∷◌, Bool, true, false, List, [], Option, Some, None, ap, ap₂, sym, subst, refl, inl, inr, option_map, if◌then◌else◌}
+use Rattle.std.proofs.Common.{◌≡◌, ◌∙◌, ◌⊎◌, ◌||◌, ◌∷◌, Bool, true, false, List, [], Option, Some, None, ap, ap₂, sym, subst, refl, inl, inr, option_map, if◌then◌else◌}
 use Rattle.std.specs.Prelude.{unwrap_or}
 use Rattle.std.specs.List.{list_any}
 use Rattle.std.proofs.Common.{arith}
 use Rattle.std.specs.Prelude.{IfErr, IfOk, MatchResult, Ok, Err, Result}
-use Rattle.std.proofs.lemmas.Bool.{ne_eqb}
+use Rattle.std.proofs.lemmas.Bool.{ne_eqb, and_parts}
 use Rattle.clap.specs.Faults.{is_simple_and_free}
 use Rattle.clap.specs.Walk.{is_empty}
 use Rattle.clap.specs.Words.{App, HasMatchesOf, IsAmong, Kinds, Text, fault_of, subcommand_of, subcommand_rows_of}
@@ -30,17 +30,13 @@ both_parts f g h (Some a) None one two = cc
 both_parts f g h (Some a) (Some b) one two =
     ap₂ (λ x y. Some (x, y)) (ap (λ o. unwrap_or o (f a)) one) (ap (λ o. unwrap_or o (g a)) two)
 
-both_true : (a b : Bool) → (a && b) ≡ true → a ≡ true
-both_true true b e = refl
-both_true false b e = e
-
 pub simple_app : (app : App) (commands : List CommandName) → app ≡ program_of commands → is_simple_and_free app ≡ true
 simple_app app commands is = ap is_simple_and_free is ∙ simple_program commands
 
 -- the command that was met
 met_in : (app : App) (commands : List CommandName) (words : List Text) (m : ArgMatches) → app ≡ program_of commands
     → HasMatchesOf app words m → subcommand_rows_of m ≡ subcommand_of (program_of commands) words
-met_in app commands words m is has = (has (both_true _ _ (simple_app app commands is))).1 ∙ ap (λ a. subcommand_of a words) is
+met_in app commands words m is has = (has (and_parts _ _ (simple_app app commands is)).0).1 ∙ ap (λ a. subcommand_of a words) is
 
 without_fault : (commands : List CommandName) (words : List Text) → fault_of (program_of commands) words ≡ []
     → settings_of commands words ≡ asked_in commands (subcommand_of (program_of commands) words)

@@ -3,33 +3,21 @@ use Rattle.std.proofs.Common.{◌≡◌, ◌⊎◌, ℕ, Result, Ok, Err, inl, i
 use Rattle.outside_io.specs.believed.Seen.{SinkSeen}
 use Rattle.definitions.specs.believed.Laws.{IsCertified}
 use Rattle.definitions.specs.believed.Verdict as defined
-use Rattle.definitions.specs.believed.Verdict.{verdict_text}
 use Rattle.definitions.proofs.Certified.{certified}
 use Rattle.proof_check.specs.believed.Checks.{verdict_given}
 use Rattle.proof_check.specs.declared.verdict.Verdict.{Verdict}
-use Rattle.command_line.specs.declared.stop.Stop.{Stop}
-use Rattle.command_line.specs.declared.stop.Stop.TheVariants.{OutOfMemory, Spent, BadWord, BadModel, BadConstraint, BadRows, NoResult, BadResult, CannotRead}
-use Rattle.command_line.specs.declared.stop.Stop.TheVariants.{CannotWrite, CannotWriteReport, TooMany, TooLong}
 use Rattle.check_cli.specs.believed.Runs.{HeldFiles}
 use Rattle.check_cli.specs.Runs.{answer_text}
+use Rattle.check_cli.proofs.RunEnds.{text_told}
 use Rattle.jeldroft_args.specs.declared.check.Check.{Check}
-use Rattle.jeldroft_files.specs.believed.Failures.{status_of, status_of_stop}
 use Rattle.jeldroft_files.specs.believed.Runs.{IsPrinted, Moment}
-use Rattle.jeldroft_files.specs.declared.failure.Cause.{Cause}
-use Rattle.jeldroft_files.specs.declared.failure.Cause.TheVariants as causes
 use Rattle.jeldroft_files.specs.declared.failure.Failure.{Failure}
+use Rattle.jeldroft_files.proofs.Statuses.{cause_known}
 use Rattle.jeldroft_check.specs.believed.Runs.{ChecksAs, Due, HasReadings, verdict_status}
 use Rattle.jeldroft_check.specs.Steps.{Answers, Ends, answer_status, end_status}
 use Rattle.jeldroft_check.proofs.OneVerdict.{not_both, one_status, one_verdict}
 
 -- ---- a verdict as the program has it, and as it is defined
-
-text_told : (v : defined.Verdict) → answer_text (verdict_given v) ≡ verdict_text v
-text_told (defined.Accepted rows omissions) = refl
-text_told (defined.BadRow line) = refl
-text_told (defined.BadProof line) = refl
-text_told (defined.BadOmission line) = refl
-text_told (defined.Uncovered tuple) = refl
 
 status_told : (v : defined.Verdict) → answer_status (verdict_given v) ≡ verdict_status v
 status_told (defined.Accepted rows omissions) = refl
@@ -51,27 +39,6 @@ two_at_most (defined.BadRow line) = inr refl
 two_at_most (defined.BadProof line) = inr refl
 two_at_most (defined.BadOmission line) = inr refl
 two_at_most (defined.Uncovered tuple) = inr refl
-
--- ---- a cause has status 2 or 3
-
-of_stop : (stop : Stop) → (status_of_stop stop ≡ 2) ⊎ (status_of_stop stop ≡ 3)
-of_stop OutOfMemory = inr refl
-of_stop (Spent budget question) = inl refl
-of_stop (BadWord index) = inl refl
-of_stop (BadModel diag) = inl refl
-of_stop (BadConstraint diag) = inl refl
-of_stop (BadRows fault) = inl refl
-of_stop NoResult = inl refl
-of_stop (BadResult line) = inl refl
-of_stop (CannotRead kind) = inr refl
-of_stop (CannotWrite kind) = inr refl
-of_stop CannotWriteReport = inr refl
-of_stop (TooMany quantity count) = inl refl
-of_stop (TooLong kind) = inl refl
-
-of_cause : (cause : Cause) → (status_of cause ≡ 2) ⊎ (status_of cause ≡ 3)
-of_cause (causes.Stop stop) = of_stop stop
-of_cause (causes.Comma fault) = inl refl
 
 module _ (args : Check) (held : HeldFiles) where
   -- the line of the verdict was printed
@@ -96,7 +63,7 @@ module _ (args : Check) (held : HeldFiles) where
           certified judged.model judged.report.rows inputs.proof (accepted.0, accepted.1, judged.holds ∙ accepted.2);
     },
   )
-  certified_end before after status (Err failure) is zero ends = elim (of_cause failure.cause) [
+  certified_end before after status (Err failure) is zero ends = elim (cause_known failure.cause) [
     | inl two ↦ absurd (omega (arith, is, zero, two))
     | inr three ↦ absurd (omega (arith, is, zero, three))
   ]
@@ -126,11 +93,11 @@ module _ (args : Check) (held : HeldFiles) where
   }
   checks_as before after status (Err failure) is (inr refusal) = record {
     told = λ known. absurd (elim known [
-      | inl zero ↦ elim (of_cause failure.cause) [
+      | inl zero ↦ elim (cause_known failure.cause) [
         | inl two ↦ omega (arith, is, two, zero)
         | inr three ↦ omega (arith, is, three, zero)
       ]
-      | inr one ↦ elim (of_cause failure.cause) [
+      | inr one ↦ elim (cause_known failure.cause) [
         | inl two ↦ omega (arith, is, two, one)
         | inr three ↦ omega (arith, is, three, one)
       ]

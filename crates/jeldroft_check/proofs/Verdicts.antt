@@ -1,12 +1,7 @@
 -- The verdict on the three files, from the bytes of each.
 use Rattle.std.proofs.Common.{◌≡◌, ℕ, List, Option, Some, None, Result, Ok, Err, inl, inr, refl, ap, subst, ◌∙◌}
-use Rattle.std.proofs.lemmas.Option.{none-some, same_Some}
 use Rattle.outside_io.specs.believed.Seen.{FolderSeen, KeepsFiles}
-use Rattle.definitions.specs.believed.RowReading as readings
 use Rattle.definitions.specs.believed.Verdict.{verdict}
-use Rattle.row_text.specs.Readings.{fault_of}
-use Rattle.row_text.specs.declared.rows_fault.RowsFault.{RowsFault}
-use Rattle.row_text.specs.declared.rows_fault.RowsFault.TheVariants as told_faults
 use Rattle.model_lex.specs.declared.options.ModelOpts.{ModelOpts}
 use Rattle.command_line.specs.believed.Stops.{stop_of_model, stop_of_plan}
 use Rattle.command_line.specs.Stops.{stop_of_rows}
@@ -17,7 +12,8 @@ use Rattle.proof_check.specs.declared.verdict.CheckFault.{CheckFault}
 use Rattle.proof_check.specs.declared.verdict.CheckFault.TheVariants.{BadModel, Limits, Report, NoMemory}
 use Rattle.proof_check.specs.declared.verdict.Verdict.{Verdict}
 use Rattle.check_cli.specs.RunSteps.{stop_of_check}
-use Rattle.check_cli.specs.believed.Runs.{HeldFiles, Inputs, bytes_of, stop_of_report}
+use Rattle.check_cli.specs.believed.Runs.{HeldFiles, Inputs, bytes_of}
+use Rattle.check_cli.proofs.RunEnds.{same_report}
 use Rattle.jeldroft_args.specs.declared.check.Check.{Check}
 use Rattle.jeldroft_files.specs.believed.Failures.{status_of}
 use Rattle.jeldroft_files.specs.believed.Models.{opts_of}
@@ -29,14 +25,6 @@ use Rattle.jeldroft_check.specs.believed.Runs.{Due, Holds, IsRefused, bad_model,
 use Rattle.jeldroft_check.specs.Steps.{Answers, FailsBy, Judges, end_seen}
 
 -- ---- bytes that are judged
-
-same_report : (fault : RowsFault) (given : readings.RowsFault) → fault_of fault ≡ Some given → stop_of_rows fault ≡ stop_of_report given
-same_report told_faults.NoHeader given is = ap stop_of_report (same_Some readings.NoHeader given is)
-same_report (told_faults.Twice line) given is = ap stop_of_report (same_Some (readings.Twice line) given is)
-same_report (told_faults.Missing p) given is = ap stop_of_report (same_Some (readings.Missing p) given is)
-same_report (told_faults.TooManyRows count) given is = ap stop_of_report (same_Some (readings.TooManyRows count) given is)
-same_report (told_faults.Width line) given is = ap stop_of_report (same_Some (readings.Width line) given is)
-same_report told_faults.NoMemory given is = absurd (none-some given is)
 
 -- a check that ends without a verdict
 pub stops : (opts : ModelOpts) (inputs : Inputs) (fault : CheckFault) (cause : Cause) → IsCheckOf opts inputs.model inputs.report inputs.proof (Err fault)

@@ -1,24 +1,24 @@
 -- What a command does that reads files, and then ends with its answer.
-use Rattle.std.proofs.Common.{◌≡◌, ℕ, List, Option, Some, None, Result, Ok, Err, inl, inr, ap, sym, subst, ◌∙◌, arith}
+use Rattle.std.proofs.Common.{◌≡◌, ℕ, List, Option, Some, None, Result, Ok, Err, inl, inr, ap, sym, subst, ◌∙◌, arith, refl}
 use Rattle.std.specs.Prelude.{IfSome}
 use Rattle.outside_io.specs.believed.Seen.{FolderSeen, SinkSeen, KeepsFiles}
 use Rattle.jeldroft_files.specs.Runs.{Ends, IsCalledFor, IsDueOnce}
-use Rattle.jeldroft_files.specs.believed.Runs.{IsWritten, KeepsFile, Leaves, Moment, RunsAs, moment}
+use Rattle.jeldroft_files.specs.believed.Runs.{IsWritten, KeepsFile, Leaves, Moment, RunsAs, moment, IsPrinted}
 
 -- ---- files that were only read before
 
-pub written_since : (output : Option (List ℕ)) (text : List ℕ) (folder read : FolderSeen) (out : SinkSeen) (after : Moment)
-    → IsWritten output text (moment read out) after → IsWritten output text (moment folder out) after
-written_since (Some name) text folder read out after written = written
-written_since None text folder read out after written = written
+pub written_since : (output : Option (List ℕ)) (text : List ℕ) (first before after : Moment) → before.out ≡ first.out → IsWritten output text before after
+    → IsWritten output text first after
+written_since (Some name) text first before after same written = (written.0 ∙ same, written.1)
+written_since None text first before after same written = subst (λ out. IsPrinted text out after.out) same written
 
-kept_since : (output : Option (List ℕ)) (first before after : FolderSeen) → KeepsFiles first before → IfSome output (λ name. KeepsFile name before after)
+pub kept_since : (output : Option (List ℕ)) (first before after : FolderSeen) → KeepsFiles first before → IfSome output (λ name. KeepsFile name before after)
     → IfSome output (λ name. KeepsFile name first after)
 kept_since None first before after reads kept = tt
 kept_since (Some name) first before after reads kept = subst (λ file. IfSome (after.files name) (λ held. file ≡ Some held)) (reads name) kept
 
 -- a file that holds what it held
-kept_by : (output : Option (List ℕ)) (before after : FolderSeen) → KeepsFiles before after → IfSome output (λ name. KeepsFile name before after)
+pub kept_by : (output : Option (List ℕ)) (before after : FolderSeen) → KeepsFiles before after → IfSome output (λ name. KeepsFile name before after)
 kept_by None before after keeps = tt
 kept_by (Some name) before after keeps = go (after.files name) (keeps name)
   where
@@ -63,7 +63,7 @@ pub runs_as : {Cause : Type 0} {status_of : Cause → ℕ} {Due : Result (List �
     → (output : Option (List ℕ)) (folder read : FolderSeen) (out : SinkSeen) (after : Moment) (status : ℕ) (answer : Result (List ℕ) ℕ)
     → IsCalledFor status_of Due answer → Ends answer output (moment read out) after status → RunsAs status_of Due output (moment folder out) after status
 runs_as once output folder read out after status (Ok text) due ends = record {
-  done = λ zero. (text, due, written_since output text folder read out after (ends.written zero));
+  done = λ zero. (text, due, written_since output text (moment folder out) (moment read out) after refl (ends.written zero));
   refused = λ two. elim ends.known [
     | inl zero ↦ absurd (omega (arith, zero, two))
     | inr three ↦ absurd (omega (arith, three, two))

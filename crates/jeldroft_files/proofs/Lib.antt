@@ -4,3 +4,4 @@ pub mod ReadBack
 pub mod Reading
 pub mod TabbedLength
 pub mod TabbedSteps
+pub mod Statuses

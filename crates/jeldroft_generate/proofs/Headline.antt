@@ -1,9 +1,8 @@
 -- The table that was written covers what can be covered.
-use Rattle.std.proofs.Common.{◌≡◌, ℕ, ◌^◌, ◌<◌, ◌⊎◌, true, false, Bool, List, length, Option, None, Some, Result, Ok, Err, inl, inr, refl, sym, subst, arith}
-use Rattle.std.specs.Prelude.{All, nat_lt, slice_index_or, if◌then◌else◌, IfSome, IsSomeAnd, option_and_then, option_map, unwrap_or}
+use Rattle.std.proofs.Common.{◌≡◌, ℕ, ◌^◌, ◌<◌, true, List, length, Option, None, Some, Result, Ok, Err, inl, inr, refl, sym, subst, arith}
+use Rattle.std.specs.Prelude.{All, nat_lt, slice_index_or, IfSome, IsSomeAnd, option_and_then, option_map, unwrap_or}
 use Rattle.std.proofs.lemmas.Bool.{ltb-false}
 use Rattle.std.proofs.lemmas.List.Folds.{Any-from_list_any, list_any-from_Any}
-use Rattle.std.proofs.lemmas.Option.{none-some}
 use Rattle.value_text.proofs.ListLemmas.{one_ok}
 use Rattle.cov_model.specs.believed.Sound.{ModelView, IsSound}
 use Rattle.cov_model.specs.believed.Valid.{is_valid, serves}
@@ -23,14 +22,15 @@ use Rattle.outside_io.specs.believed.Files.{Files}
 use Rattle.outside_io.specs.believed.Seen.{FolderSeen, SinkSeen}
 use Rattle.refutation.specs.believed.Proofs.{format_of}
 use Rattle.refutation.specs.declared.omissions.ProofForm.{ProofForm}
-use Rattle.refutation.specs.declared.omissions.ProofForm.TheVariants.{One, Two}
+use Rattle.refutation.specs.declared.omissions.ProofForm.TheVariants.{One}
 use Rattle.tuple_index.specs.believed.PlanFault as limits
 use Rattle.tuple_index.specs.believed.PlanFault.{limit_passed}
 use Rattle.tuple_index.specs.declared.fault.PlanFault.TheVariants.{TooManySets, TooManyTuples}
 use Rattle.command_line.specs.believed.Stops.{stop_of_plan}
 use Rattle.command_line.specs.declared.stop.Stop.{Stop}
 use Rattle.pict_cli.specs.believed.Runs.{CoversOrRefutes, spent_at}
-use Rattle.pict_cli.proofs.Headline.{suite_rows}
+use Rattle.pict_cli.proofs.Headline.{suite_rows, second_false}
+use Rattle.pict_cli.proofs.RunEnds.{a_form}
 use Rattle.jeldroft_args.specs.declared.generate.Generate.{Generate}
 use Rattle.jeldroft_args.specs.declared.proof_output.ProofOutput.{ProofOutput}
 use Rattle.jeldroft_args.specs.declared.shrinking.Shrinking.{Shrinking}
@@ -39,6 +39,7 @@ use Rattle.jeldroft_files.specs.believed.Models.{opts_of}
 use Rattle.jeldroft_files.specs.believed.Runs.{IsWritten, Moment, moment}
 use Rattle.jeldroft_files.specs.declared.failure.Cause.{Cause}
 use Rattle.jeldroft_files.specs.declared.failure.Failure.{Failure}
+use Rattle.jeldroft_files.proofs.Ending.{written_since}
 use Rattle.jeldroft_generate.specs.believed.Asked.{AreRowsFor, effort_of, orders_of, proof_form, proof_format, proof_name, question_over, rows_of}
 use Rattle.jeldroft_generate.specs.Due.{Answers, IsMadeOf}
 use Rattle.jeldroft_generate.specs.believed.Due.{AreHeld, CallsFor, Held, IsProof, Start, reading_of, start_of}
@@ -48,7 +49,6 @@ use Rattle.jeldroft_generate.specs.Runs.{Finishes}
 use Rattle.jeldroft_generate.specs.declared.made.Made.{Made}
 use Rattle.jeldroft_generate.proofs.Reading.{has_model}
 use Rattle.jeldroft_generate.proofs.Runs.{not_zero, proof_of}
-use Rattle.jeldroft_generate.proofs.Since.{written_from}
 
 -- the rows of a suite fit its model
 pub rows_fit : (args : Generate) (m : ModelView) (seeds : List (ℕ × List (Option ℕ))) → IsSound m → All (FitsModel m) (rows_of args m seeds)
@@ -72,22 +72,12 @@ still_covers (Some shrinking) m format proof grown seeds rows are covers = recor
       ];
 }
 
--- fewer than 2^32 tuples are demanded
-second_false : {X : Type 0} (x y : X) (first second : Bool) → (if first then Some x else if second then Some y else None) ≡ None → second ≡ false
-second_false x y true second none = absurd (none-some x (sym none))
-second_false x y false true none = absurd (none-some y (sym none))
-second_false x y false false none = refl
-
 few_demanded : (m : ModelView) → limit_passed m ≡ None → length (demanded_tuples m) < 2 ^ 32
 few_demanded m within =
     let few = ltb-false (2 ^ 26) (length (demanded_tuples m))
     (second_false (TooManySets (limits.saturated (length (choices m)))) (TooManyTuples (limits.saturated (length (demanded_tuples m))))
     (nat_lt (2 ^ 20) (length (choices m))) (nat_lt (2 ^ 26) (length (demanded_tuples m))) within) in
     omega (arith, few)
-
-form_known : (form : ProofForm) → (format_of form ≡ 1) ⊎ (format_of form ≡ 2)
-form_known One = inl refl
-form_known Two = inr refl
 
 module _ (m : ModelView) (pref : List (List ℕ)) (seeds : List (ℕ × List (Option ℕ))) (effort : Effort) (sound : IsSound m) (orders : OrdersValues m pref) (within : limit_passed m ≡ None) where
   covers : (form : ProofForm) (proof : Option (Option (List ℕ))) → IfSome proof (λ held. IsSomeAnd held (IsProofOfSuite m pref seeds effort (format_of form)))
@@ -101,7 +91,7 @@ module _ (m : ModelView) (pref : List (List ℕ)) (seeds : List (ℕ × List (Op
       let proof : IsSoundProof m pref seeds effort (format_of form) bytes = record {
         sound = sound;
         orders = orders;
-        known = form_known form;
+        known = a_form form;
         few = few_demanded m within;
         proof = holds;
       } in
@@ -164,7 +154,7 @@ covers_zero args folder read out after status (Ok made) answers ends zero held i
       rows = made_of.table.rows;
       are = made_of.table.are;
       written = subst (λ text. IsWritten args.output text (moment folder out) after) made_of.table.is
-          (written_from args.output made.table.items (moment folder out) (moment read out) after refl (ends.written zero));
+          (written_since args.output made.table.items (moment folder out) (moment read out) after refl (ends.written zero));
       covers =
           still_covers args.shrinking m (proof_format args) (told_proof args after.folder.files) (rows_of args m start.seeds) (lines.rows_of start.seeds) made_of.table.rows made_of.table.are
           (covers_told m (orders_of args m) start.seeds (effort_of args.budget) made_of.sound (OrdersValues-preference m args.shuffle) made_of.within args.proof after.folder.files proof);

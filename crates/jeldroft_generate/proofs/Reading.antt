@@ -1,6 +1,5 @@
 -- A model file gives one answer, and what follows where it was read and where it wasn't.
 use Rattle.std.proofs.Common.{◌≡◌, ℕ, ◌≤◌, ◌⊎◌, List, length, Option, None, Some, Result, Ok, Err, inl, inr, refl, ap, sym, subst, ◌∙◌, arith}
-use Rattle.std.specs.Prelude.{IfSome}
 use Rattle.std.proofs.lemmas.Option.{none-some, same_Some}
 use Rattle.value_text.proofs.ListLemmas.{one_ok}
 use Rattle.cov_model.specs.believed.Sound.{ModelView}
@@ -37,10 +36,6 @@ one_model opts held given other (is_read bytes answer some within read is) (is_t
 one_model opts held given other (is_read bytes answer some within read is) (is_read bytes' answer' some' within' read' same) =
     let e : bytes' ≡ bytes = same_Some bytes' bytes (sym some' ∙ some) in
     is ∙ ap model_or_cause (one_answer opts bytes answer answer' read (subst (λ text. IsAnswerOf opts text answer') e read')) ∙ sym same
-
--- what holds of what is held
-pub at_held : {A : Type 0} (P : A → Type 0) (o : Option A) (x : A) → o ≡ Some x → IfSome o P → P x
-at_held P o x e h = subst (λ found. IfSome found P) e h
 
 -- the model of a file that is loaded
 pub model_given : (opts : ModelOpts) (held : Option (List ℕ)) (m : ModelView) (notes : List Note) → IsLoaded opts held m notes → GivesModel opts held (Ok m)

@@ -3,14 +3,13 @@ use Rattle.std.proofs.Common.{◌≡◌, ℕ, ◌⊎◌, List, Option, None, Som
 use Rattle.std.specs.Prelude.{◌≢◌, IfSome, IsSomeAnd}
 use Rattle.value_text.proofs.ListLemmas.{one_ok}
 use Rattle.outside_io.specs.believed.Seen.{FolderSeen, SinkSeen, KeepsFiles}
-use Rattle.command_line.specs.declared.stop.Stop.{Stop}
-use Rattle.command_line.specs.declared.stop.Stop.TheVariants as stops
 use Rattle.jeldroft_args.specs.declared.generate.Generate.{Generate}
 use Rattle.jeldroft_files.specs.believed.Failures.{status_of}
-use Rattle.jeldroft_files.specs.believed.Runs.{KeepsFile, Moment, moment}
+use Rattle.jeldroft_files.specs.believed.Runs.{Moment, moment}
 use Rattle.jeldroft_files.specs.declared.failure.Cause.{Cause}
-use Rattle.jeldroft_files.specs.declared.failure.Cause.TheVariants as causes
 use Rattle.jeldroft_files.specs.declared.failure.Failure.{Failure}
+use Rattle.jeldroft_files.proofs.Statuses.{cause_known}
+use Rattle.jeldroft_files.proofs.Ending.{kept_by, kept_since, written_since}
 use Rattle.jeldroft_generate.specs.believed.Asked.{proof_name}
 use Rattle.jeldroft_generate.specs.Due.{Answers, IsMadeOf}
 use Rattle.jeldroft_generate.specs.believed.Due.{CallsFor, Held, IsProof, Start, start_of}
@@ -19,27 +18,7 @@ use Rattle.jeldroft_generate.specs.Runs.{Finishes}
 use Rattle.jeldroft_generate.specs.believed.Runs.{Generates, Leaves}
 use Rattle.jeldroft_generate.specs.declared.made.Made.{Made}
 use Rattle.jeldroft_generate.proofs.Reading.{one_model}
-use Rattle.jeldroft_generate.proofs.Since.{if_some_then, same_kept, written_from}
-
--- the status of a cause
-stop_known : (stop : Stop) → (status_of (causes.Stop stop) ≡ 2) ⊎ (status_of (causes.Stop stop) ≡ 3)
-stop_known stops.OutOfMemory = inr refl
-stop_known (stops.Spent budget question) = inl refl
-stop_known (stops.BadWord index) = inl refl
-stop_known (stops.BadModel diag) = inl refl
-stop_known (stops.BadConstraint diag) = inl refl
-stop_known (stops.BadRows fault) = inl refl
-stop_known stops.NoResult = inl refl
-stop_known (stops.BadResult line) = inl refl
-stop_known (stops.CannotRead kind) = inr refl
-stop_known (stops.CannotWrite kind) = inr refl
-stop_known stops.CannotWriteReport = inr refl
-stop_known (stops.TooMany quantity count) = inl refl
-stop_known (stops.TooLong kind) = inl refl
-
-cause_known : (cause : Cause) → (status_of cause ≡ 2) ⊎ (status_of cause ≡ 3)
-cause_known (causes.Stop stop) = stop_known stop
-cause_known (causes.Comma fault) = inl refl
+use Rattle.jeldroft_generate.proofs.Since.{if_some_then, same_kept}
 
 pub not_zero : (cause : Cause) (status : ℕ) → status ≡ status_of cause → status ≢ 0
 not_zero cause status is zero = elim (cause_known cause) [
@@ -73,16 +52,6 @@ old_proof (Some name) P folder after keeps =
     if_some_then (λ held. folder.files name ≡ Some held) (λ held. (folder.files name ≡ Some held) ⊎ IsSomeAnd held P) (after.files name) (λ held is. inl is)
     (same_kept (folder.files name) (after.files name) (keeps name))
 
--- files that were only read before
-kept_since : (output : Option (List ℕ)) (folder read after : FolderSeen) → KeepsFiles folder read → IfSome output (λ name. KeepsFile name read after)
-    → IfSome output (λ name. KeepsFile name folder after)
-kept_since None folder read after keeps kept = tt
-kept_since (Some name) folder read after keeps kept = subst (λ file. IfSome (after.files name) (λ held. file ≡ Some held)) (keeps name) kept
-
-kept_still : (output : Option (List ℕ)) (folder after : FolderSeen) → KeepsFiles folder after → IfSome output (λ name. KeepsFile name folder after)
-kept_still None folder after keeps = tt
-kept_still (Some name) folder after keeps = same_kept (folder.files name) (after.files name) (keeps name)
-
 module _ (args : Generate) (folder read : FolderSeen) (out : SinkSeen) (after : Moment) (status : ℕ) (keeps : KeepsFiles folder read) where
   nothing_changed : after ≡ moment read out → KeepsFiles folder after.folder
   nothing_changed same = λ name. ap (λ (m : Moment). m.folder.files name) same ∙ keeps name
@@ -96,7 +65,7 @@ module _ (args : Generate) (folder read : FolderSeen) (out : SinkSeen) (after : 
       record {
         table = made.table.items;
         is = is.table;
-        written = written_from args.output made.table.items (moment folder out) (moment read out) after refl (ends.written zero);
+        written = written_since args.output made.table.items (moment folder out) (moment read out) after refl (ends.written zero);
       },
       λ apart. proof_of (proof_name args) (IsProof args start) made.proof.items after.folder is.proof (ends.proof_written zero apart),
     );
@@ -151,7 +120,7 @@ module _ (args : Generate) (folder read : FolderSeen) (out : SinkSeen) (after : 
       | inr three ↦ omega (arith, three, ends.0)
     ];
     others = λ name elsewhere unproved. nothing_changed ends.1 name;
-    kept = λ fails apart. kept_still args.output folder after.folder (nothing_changed ends.1);
+    kept = λ fails apart. kept_by args.output folder after.folder (nothing_changed ends.1);
     unprinted = λ file. ap (λ (m : Moment). m.out) ends.1;
     refused = λ two. record { out = ap (λ (m : Moment). m.out) ends.1; files = nothing_changed ends.1 };
   }

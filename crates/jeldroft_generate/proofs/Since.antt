@@ -1,7 +1,6 @@
 -- Files and outputs as they were before others were read or written.
-use Rattle.std.proofs.Common.{◌≡◌, ℕ, List, Option, None, Some, sym, subst, ◌∙◌}
+use Rattle.std.proofs.Common.{◌≡◌, ℕ, List, Option, None, Some, sym}
 use Rattle.std.specs.Prelude.{IfSome}
-use Rattle.jeldroft_files.specs.believed.Runs.{IsPrinted, IsWritten, Moment}
 
 pub if_some_then : {A : Type 0} (P Q : A → Type 0) (o : Option A) → ((x : A) → P x → Q x) → IfSome o P → IfSome o Q
 if_some_then P Q None then holds = tt
@@ -11,8 +10,3 @@ if_some_then P Q (Some x) then holds = then x holds
 pub same_kept : (before after : Option (Option (List ℕ))) → after ≡ before → IfSome after (λ held. before ≡ Some held)
 same_kept before None same = tt
 same_kept before (Some held) same = sym same
-
--- a text went where the output goes
-pub written_from : (output : Option (List ℕ)) (text : List ℕ) (before mid after : Moment) → mid.out ≡ before.out → IsWritten output text mid after → IsWritten output text before after
-written_from (Some name) text before mid after same written = (written.0 ∙ same, written.1)
-written_from None text before mid after same written = subst (λ out. IsPrinted text out after.out) same written

@@ -1,13 +1,10 @@
 -- What follows of a model file and a table that were read, and of those that weren't.
-use Rattle.std.proofs.Common.{◌≡◌, ℕ, ◌≤◌, List, [], ◌∷◌, map, length, Option, None, Some, Ok, Err, inl, inr, refl, ap, sym, subst, ◌∙◌, arith}
-use Rattle.std.specs.Prelude.{IfSome}
+use Rattle.std.proofs.Common.{◌≡◌, ℕ, ◌≤◌, List, length, Option, None, Some, Ok, Err, inl, inr, refl, ap, sym, subst, ◌∙◌, arith}
 use Rattle.std.proofs.lemmas.Option.{none-some, same_Some}
 use Rattle.cov_model.specs.believed.Sound.{ModelView}
 use Rattle.definitions.specs.believed.Limits.{ModelFile, most_bytes}
 use Rattle.model_lex.specs.declared.note.Note.{Note}
 use Rattle.model_lex.specs.declared.options.ModelOpts.{ModelOpts}
-use Rattle.row_text.specs.RowFiles.{row_seen}
-use Rattle.row_text.specs.declared.row_file.FileRow.{FileRow}
 use Rattle.type_check.specs.believed.ModelOf.{IsAnswerOf}
 use Rattle.type_check.proofs.OneAnswer.{one_answer}
 use Rattle.command_line.specs.believed.Loading as reads
@@ -40,10 +37,6 @@ one_model opts held given other (is_read bytes answer some within read is) (is_r
     let e : bytes' ≡ bytes = same_Some bytes' bytes (sym some' ∙ some) in
     is ∙ ap model_or_cause (one_answer opts bytes answer answer' read (subst (λ text. IsAnswerOf opts text answer') e read')) ∙ sym same
 
--- what holds of what is held
-pub at_held : {A : Type 0} (P : A → Type 0) (o : Option A) (x : A) → o ≡ Some x → IfSome o P → P x
-at_held P o x e h = subst (λ found. IfSome found P) e h
-
 -- the model of a file that is loaded
 pub model_given : (opts : ModelOpts) (held : Option (List ℕ)) (m : ModelView) (notes : List Note) → IsLoaded opts held m notes → GivesModel opts held (Ok m)
 model_given opts None m notes loaded = absurd loaded
@@ -61,8 +54,3 @@ stop_given opts (Some bytes) stop (reads.is_refused fault is refused) = inr (is_
 
 pub cause_given : (opts : ModelOpts) (held : Option (List ℕ)) (cause : Cause) → StopsModel opts held cause → EndsBy (λ cause. GivesModel opts held (Err cause)) cause
 cause_given opts held cause stops = subst (EndsBy (λ other. GivesModel opts held (Err other))) (sym stops.1) (stop_given opts held stops.0 stops.2)
-
--- the rows of a file, as those of a suite
-pub suite_rows : (rows : List FileRow) → map (λ row. row.1) (map row_seen rows) ≡ map (λ row. row.cells) rows
-suite_rows [] = refl
-suite_rows (row ∷ rows) = ap (λ rest. row.cells ∷ rest) (suite_rows rows)

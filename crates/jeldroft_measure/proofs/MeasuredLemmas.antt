@@ -8,6 +8,7 @@ use Rattle.definitions.specs.believed.Figures.{Figures, figures}
 use Rattle.definitions.specs.believed.Search.{first_measured_over}
 use Rattle.row_text.specs.RowFiles.{suite_seen}
 use Rattle.row_text.specs.declared.row_file.RowFile.{RowFile}
+use Rattle.row_text.proofs.SeenRows.{suite_rows}
 use Rattle.tuple_index.specs.believed.PlanFault.{limit_passed}
 use Rattle.command_line.specs.believed.Stops.{stop_of_plan}
 use Rattle.command_line.specs.declared.stop.Stop.{Stop}
@@ -15,7 +16,6 @@ use Rattle.jeldroft_files.specs.declared.failure.Cause.{Cause}
 use Rattle.jeldroft_files.specs.declared.failure.Cause.TheVariants as causes
 use Rattle.jeldroft_inputs.specs.Inputs.{EndsBy, HoldsTests}
 use Rattle.jeldroft_inputs.specs.believed.Inputs.{and_then, tests_of, unless}
-use Rattle.jeldroft_inputs.proofs.InputLemmas.{suite_rows}
 use Rattle.jeldroft_measure.specs.Due.{IsSpent}
 use Rattle.jeldroft_measure.specs.believed.Due.{measured, spent_at}
 

@@ -21,12 +21,7 @@ use Rattle.jeldroft_show.specs.believed.Certified.{HoldsCertified}
 use Rattle.jeldroft_show.specs.believed.Due.{Due, HeldFiles, form_of, proof_of, shown_due, shown_words, words_shown}
 use Rattle.jeldroft_show.specs.believed.Shows.{Shown, ShowsAs, status_with}
 use Rattle.jeldroft_show.specs.believed.Words.{is_accepted}
-
-same_shown : {due : Result Shown Cause} {one other : Shown} → due ≡ Ok one → due ≡ Ok other → one ≡ other
-same_shown e f = cc
-
-not_both : {due : Result Shown Cause} {shown : Shown} {cause : Cause} → due ≡ Ok shown → due ≡ Err cause → ⊥
-not_both e f = cc
+use Rattle.value_text.proofs.ListLemmas.{ok-err, one_ok}
 
 -- a verdict that accepts
 accepted_is : (v : defined.Verdict) → is_accepted (verdict_given v) ≡ true → (rows : ℕ) × (omissions : ℕ) × (v ≡ defined.Accepted rows omissions)
@@ -48,11 +43,11 @@ words_accepted args m held shown gives is accepted =
         → unless (option_map stop_of_plan limit) (and_then read (λ reading. and_then given (λ bytes.
         Ok (shown_words args m reading.rows (map (λ row. row.1) reading.rows) bytes)))) ≡ Ok shown
         → HoldsCertified args held
-    at (Some fault) within read tests given proof e = absurd (not_both e refl)
-    at None within (Err cause) tests given proof e = absurd (not_both e refl)
-    at None within (Ok reading) tests (Err cause) proof e = absurd (not_both e refl)
+    at (Some fault) within read tests given proof e = absurd (ok-err _ _ e refl)
+    at None within (Err cause) tests given proof e = absurd (ok-err _ _ e refl)
+    at None within (Ok reading) tests (Err cause) proof e = absurd (ok-err _ _ e refl)
     at None within (Ok reading) tests (Ok bytes) proof e =
-        let is_so = accepted_is (verdict m reading.rows bytes) (ap (λ (s : Shown). s.accepted) (same_shown refl e) ∙ accepted) in
+        let is_so = accepted_is (verdict m reading.rows bytes) (ap (λ (s : Shown). s.accepted) (one_ok refl e) ∙ accepted) in
         record {
           m = m;
           model = gives;
@@ -75,7 +70,7 @@ due_accepted args held shown due accepted = at due.given due.gives due.is
     at : (given : Result ModelView Cause) → GivesModel (opts_of args.model args.strength) held.model given
         → Ok shown ≡ and_then given (λ m. shown_due None args m held) → HoldsCertified args held
     at (Ok m) gives is = words_accepted args m held shown gives (sym is) accepted
-    at (Err cause) gives is = absurd (not_both (sym is) refl)
+    at (Err cause) gives is = absurd (ok-err _ _ (sym is) refl)
 
 pub certified_by : (args : Show) (held : HeldFiles) (output : Option (List ℕ)) (before after : Moment) (status : ℕ) → form_of args.format ≡ None → status ≡ 0
     → ShowsAs (Due (form_of args.format) args held) output before after status → HoldsCertified args held

@@ -1,5 +1,5 @@
 -- What the files of `show` call for: one thing, which the steps give.
-use Rattle.std.proofs.Common.{◌≡◌, ℕ, ◌≤◌, true, List, [], ◌∷◌, map, length, Option, None, Some, Ok, Err, Result, inl, inr, refl, ap, sym, subst, ◌∙◌}
+use Rattle.std.proofs.Common.{◌≡◌, ℕ, ◌≤◌, true, List, map, length, Option, None, Some, Ok, Err, Result, inl, inr, refl, ap, sym, subst, ◌∙◌}
 use Rattle.std.specs.Prelude.{IfSome, option_map, if◌then◌else◌}
 use Rattle.std.proofs.lemmas.Bool.{le-ltb, lt-ltb}
 use Rattle.std.proofs.lemmas.Option.{none-some, same_Some}
@@ -15,9 +15,9 @@ use Rattle.command_line.specs.believed.Stops.{stop_of_plan}
 use Rattle.command_line.specs.declared.files.FileKind.TheVariants as kinds
 use Rattle.command_line.specs.declared.stop.Stop.{Stop}
 use Rattle.command_line.specs.declared.stop.Stop.TheVariants.{TooLong}
-use Rattle.row_text.specs.RowFiles.{row_seen, seeds_seen, suite_seen}
-use Rattle.row_text.specs.declared.row_file.FileRow.{FileRow}
+use Rattle.row_text.specs.RowFiles.{seeds_seen, suite_seen}
 use Rattle.row_text.specs.declared.row_file.RowFile.{RowFile}
+use Rattle.row_text.proofs.SeenRows.{suite_rows}
 use Rattle.row_forms.specs.declared.row_form.RowForm.{RowForm}
 use Rattle.suite_forms.specs.believed.Suites.{suite_text}
 use Rattle.jeldroft_args.specs.declared.show.Show.{Show}
@@ -29,12 +29,13 @@ use Rattle.jeldroft_files.specs.declared.failure.Cause.TheVariants as causes
 use Rattle.jeldroft_files.specs.declared.failure.Failure.{Failure}
 use Rattle.jeldroft_inputs.specs.Inputs.{EndsBy, HoldsTests}
 use Rattle.jeldroft_inputs.specs.believed.Inputs.{GivesModel, and_then, tests_of, unless}
-use Rattle.jeldroft_inputs.proofs.InputLemmas.{at_held, one_model}
+use Rattle.jeldroft_inputs.proofs.InputLemmas.{one_model}
 use Rattle.jeldroft_show.specs.believed.Due.{Due, HeldFiles, HoldsSuite, proof_in, proof_of, rows_shown, shown_due, shown_words, words_shown}
 use Rattle.jeldroft_show.specs.Due.{IsLimit}
 use Rattle.jeldroft_show.specs.believed.Shows.{Shown}
 use Rattle.jeldroft_show.specs.Steps.{Gives, IsCalledFor, shown_by}
 use Rattle.jeldroft_show.specs.declared.answer.Answer.{Answer}
+use Rattle.value_text.proofs.ListLemmas.{at_held}
 
 -- the files call for one thing
 pub due_once : (form : Option RowForm) (args : Show) (held : HeldFiles) (due other : Result Shown Cause) → Due form args held due → Due form args held other → due ≡ other
@@ -43,11 +44,6 @@ due_once form args held due other one two =
     ∙ ap (λ given. and_then given (λ m. shown_due form args m held))
     (one_model (opts_of args.model args.strength) held.model one.given two.given one.gives two.gives)
     ∙ sym two.is
-
--- the rows of a file without their lines
-suite_rows : (rows : List FileRow) → map (λ row. row.1) (map row_seen rows) ≡ map (λ row. row.cells) rows
-suite_rows [] = refl
-suite_rows (row ∷ rows) = ap (λ rest. row.cells ∷ rest) (suite_rows rows)
 
 -- the text of a table in a form
 abbrev text_in : RowForm → ModelView → List (List (Option ℕ)) → Result Shown Cause

@@ -3,14 +3,13 @@ use Rattle.std.proofs.Common.{◌≡◌, ℕ, List, Option, Some, None, Result, 
 use Rattle.std.specs.Prelude.{◌⊎◌, IfErr, IfOk, IfSome, IsErrAnd}
 use Rattle.cov_model.specs.believed.Sound.{ModelView}
 use Rattle.command_line.specs.declared.stop.Stop.{Stop}
-use Rattle.command_line.specs.declared.stop.Stop.TheVariants as stops
-use Rattle.command_line.specs.declared.stop.Stop.TheVariants.{OutOfMemory, TooLong}
+use Rattle.command_line.specs.declared.stop.Stop.TheVariants.{OutOfMemory}
 use Rattle.jeldroft_args.specs.declared.shrink.Shrink.{Shrink}
-use Rattle.jeldroft_files.specs.believed.Failures.{status_of_stop}
 use Rattle.jeldroft_files.specs.believed.Models.{StopsModel, opts_of}
 use Rattle.jeldroft_files.specs.Runs.{IsCalledFor}
 use Rattle.jeldroft_files.specs.declared.failure.Cause.TheVariants as causes
 use Rattle.jeldroft_files.specs.declared.failure.Failure.{Failure}
+use Rattle.jeldroft_files.proofs.Statuses.{stop_known}
 use Rattle.outside_io.specs.believed.Files.{Files as NamedFiles}
 use Rattle.outside_io.specs.believed.Seen.{FolderSeen, KeepsFiles}
 use Rattle.row_forms.specs.declared.row_form.RowForm.{RowForm}
@@ -99,23 +98,8 @@ due_from args held form end formed due = subst (λ f. IsDueIn f args held end) (
 pub no_table_called : (args : Shrink) (held : HeldFiles) → form_of args.format ≡ None → IsCalledFor status_of (IsDue args held) (Err 2)
 no_table_called args held none = inr (NoTable, subst (λ f. IsDueIn f args held (Err NoTable)) (sym none) refl, refl)
 
-stop_status : (stop : Stop) → (status_of_stop stop ≡ 2) ⊎ (status_of_stop stop ≡ 3)
-stop_status stops.OutOfMemory = inr refl
-stop_status (stops.Spent budget question) = inl refl
-stop_status (stops.BadWord index) = inl refl
-stop_status (stops.BadModel diag) = inl refl
-stop_status (stops.BadConstraint diag) = inl refl
-stop_status (stops.BadRows fault) = inl refl
-stop_status stops.NoResult = inl refl
-stop_status (stops.BadResult line) = inl refl
-stop_status (stops.CannotRead kind) = inr refl
-stop_status (stops.CannotWrite kind) = inr refl
-stop_status stops.CannotWriteReport = inr refl
-stop_status (stops.TooMany quantity count) = inl refl
-stop_status (stops.TooLong kind) = inl refl
-
 pub ended : (cause : ShrinkCause) → (status_of cause ≡ 2) ⊎ (status_of cause ≡ 3)
-ended (Files (causes.Stop stop)) = stop_status stop
+ended (Files (causes.Stop stop)) = stop_known stop
 ended (Files (causes.Comma fault)) = inl refl
 ended NoTable = inl refl
 ended (TooManyRows count) = inl refl
@@ -131,7 +115,7 @@ module _ (args : Shrink) (held : HeldFiles) (form : RowForm) where
       → IsErrAnd r (λ given. given.cause ≡ Files failure.cause) → StopsModel (opts_of args.model args.strength) held.model failure.cause
       → IsCalledFor status_of (IsDue args held) (answer_seen r)
   model_stops (Ok table) failure formed is stops = absurd is
-  model_stops (Err given) failure formed is (stop, because, why) = elim (stop_status stop) [
+  model_stops (Err given) failure formed is (stop, because, why) = elim (stop_known stop) [
     | inl two ↦ refused_called given.cause formed (bad_model stop why two (is ∙ ap Files because))
     | inr three ↦ inl (ap status_of (is ∙ ap Files because) ∙ three)
   ]

@@ -186,7 +186,7 @@ module _ (args : Shrink) (marks : AreMarks args.model.marks) (strength : IsStren
   sums_up table answered ends told_last =
       let has = answered.has in
       let written = subst (λ o. IsWritten o table.text.items (moment folder out) after) named
-      (written_since output table.text.items folder read out after (ends.written refl)) in
+      (written_since output table.text.items (moment folder out) (moment read out) after refl (ends.written refl)) in
       record {
         wrote = worth args marks strength held (moment folder out) after answered.form table.text.items answered.m answered.formed answered.spelled
             (text_due args held answered.form answered.m table has) written;

@@ -13,7 +13,7 @@ use Rattle.suspect_tuples.specs.declared.suspect_list.Found.{Found}
 use Rattle.suspect_tuples.specs.declared.suspect_list.Suspects.{Suspects}
 use Rattle.jeldroft_suspect.specs.Due.{ArePairsFound}
 use Rattle.jeldroft_suspect.specs.SuspectsText.{ArePairsOf, IsPairOf}
-use Rattle.jeldroft_suspect.proofs.TextLemmas.{places_exist}
+use Rattle.value_text.proofs.ListLemmas.{below_all}
 
 all_of_flat_map : {X Y : Type 0} (f : X → List Y) (P : Y → Type 0) (xs : List X) → All (λ x. All P (f x)) xs → All P (flat_map f xs)
 all_of_flat_map f P [] each = All-nil P
@@ -40,12 +40,12 @@ module _ (m : ModelView) where
       (All-weaker (λ v. v < length (param_at m.params p).values) (λ v. All (ArePairsOf m) (map (λ pairs. (p, v) ∷ pairs) (tuples_on m set)))
       (λ v below. All-map (ArePairsOf m) (λ pairs. (p, v) ∷ pairs) (tuples_on m set)
       (All-weaker (ArePairsOf m) (λ pairs. ArePairsOf m ((p, v) ∷ pairs)) (λ pairs are. All-cons (IsPairOf m) (p, v) pairs (here, below) are) (tuples_on m set) rest))
-      (value_numbers m p) (places_exist (length (param_at m.params p).values)))
+      (value_numbers m p) (below_all (length (param_at m.params p).values)))
 
   sets_are : All (All (λ p. p < length m.params)) (suspect_sets m)
   sets_are =
       all_of_flat_map (λ k. choose k (param_numbers m)) (All (λ p. p < length m.params)) (range_with_len 1 m.demand.order)
-      (λ k d within. chosen_have (λ p. p < length m.params) _ (param_numbers m) (places_exist (length m.params)))
+      (λ k d within. chosen_have (λ p. p < length m.params) _ (param_numbers m) (below_all (length m.params)))
 
   pub found_are : (passing failing : List (List (Option ℕ))) → All (λ found. ArePairsOf m found.0) (suspect_tuples m passing failing)
   found_are passing failing =

@@ -4,4 +4,3 @@ pub mod OrderLemmas
 pub mod RanLemmas
 pub mod ResultLemmas
 pub mod SuspectedLemmas
-pub mod TextLemmas

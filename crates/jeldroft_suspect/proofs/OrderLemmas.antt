@@ -1,5 +1,5 @@
 -- Places by falling number of failing tests, those of one number in their order.
-use Rattle.std.proofs.Common.{◌≡◌, ℕ, suc, ◌<◌, ◌≤◌, Bool, true, false, if◌then◌else◌, List, [], ◌∷◌, length, All, AllPairs, nat_le, inl, inr, refl, arith}
+use Rattle.std.proofs.Common.{◌≡◌, ℕ, suc, ◌<◌, ◌≤◌, List, [], ◌∷◌, length, All, AllPairs, nat_le, inl, inr, arith}
 use Rattle.std.specs.Prelude.{◌⊎◌, IsPermutation}
 use Rattle.std.specs.List.{range_with_len}
 use Rattle.std.proofs.Math.Nat.{eq-or-lt_of_le}
@@ -8,14 +8,10 @@ use Rattle.std.proofs.lemmas.List.Elements.{All-cons, All-head, All-nil, All-tai
 use Rattle.std.proofs.lemmas.List.FromFn.{get_or-range_with_len, length-range_with_len}
 use Rattle.std.proofs.lemmas.List.Kept.{AllPairs-cons}
 use Rattle.std.proofs.lemmas.List.Sorted.{All-permutation, IsPermutation-cons, IsPermutation-middle, IsPermutation-refl, IsPermutation-trans}
+use Rattle.std.proofs.lemmas.Bool.{cond_both}
 use Rattle.cov_model.specs.believed.Preference.{by_falling_weight, insert_by_weight}
 use Rattle.jeldroft_suspect.specs.Laws.{CombinationsAreToldInOrder}
 use Rattle.jeldroft_suspect.specs.believed.SuspectsText.{found_at}
-
--- a choice between two lists
-either : (P : List ℕ → Type 0) (b : Bool) (xs ys : List ℕ) → (b ≡ true → P xs) → (b ≡ false → P ys) → P (if b then xs else ys)
-either P true xs ys first second = first refl
-either P false xs ys first second = second refl
 
 -- the first of a list, and the others
 pub first_with : {X : Type 0} (R : X → X → Type 0) (x : X) (xs : List X) → AllPairs R (x ∷ xs) → All (R x) xs
@@ -31,14 +27,14 @@ module _ (count : ℕ → ℕ) where
   insert_all : (P : ℕ → Type 0) (v : ℕ) (ys : List ℕ) → P v → All P ys → All P (insert_by_weight count v ys)
   insert_all P v [] here all = All-cons P v [] here all
   insert_all P v (w ∷ rest) here all =
-      either (All P) (nat_le (count w) (count v)) (v ∷ w ∷ rest) (w ∷ insert_by_weight count v rest)
+      cond_both (nat_le (count w) (count v)) (v ∷ w ∷ rest) (w ∷ insert_by_weight count v rest) (All P)
       (λ lighter. All-cons P v (w ∷ rest) here all)
       (λ heavier. All-cons P w (insert_by_weight count v rest) (All-head P w rest all) (insert_all P v rest here (All-tail P w rest all)))
 
   insert_each : (v : ℕ) (ys : List ℕ) → IsPermutation (v ∷ ys) (insert_by_weight count v ys)
   insert_each v [] = IsPermutation-refl (v ∷ [])
   insert_each v (w ∷ rest) =
-      either (IsPermutation (v ∷ w ∷ rest)) (nat_le (count w) (count v)) (v ∷ w ∷ rest) (w ∷ insert_by_weight count v rest)
+      cond_both (nat_le (count w) (count v)) (v ∷ w ∷ rest) (w ∷ insert_by_weight count v rest) (IsPermutation (v ∷ w ∷ rest))
       (λ lighter. IsPermutation-refl (v ∷ w ∷ rest))
       (λ heavier. IsPermutation-trans (v ∷ w ∷ rest) (w ∷ v ∷ rest) (w ∷ insert_by_weight count v rest) (IsPermutation-middle (v ∷ []) w rest)
       (IsPermutation-cons w (v ∷ rest) (insert_by_weight count v rest) (insert_each v rest)))
@@ -54,7 +50,7 @@ module _ (count : ℕ → ℕ) where
       → AllPairs Before (insert_by_weight count v ys)
   insert_before v [] below falls = AllPairs-cons Before v [] (All-nil (Before v)) falls
   insert_before v (w ∷ rest) below falls =
-      either (AllPairs Before) (nat_le (count w) (count v)) (v ∷ w ∷ rest) (w ∷ insert_by_weight count v rest)
+      cond_both (nat_le (count w) (count v)) (v ∷ w ∷ rest) (w ∷ insert_by_weight count v rest) (AllPairs Before)
       (λ lighter.
       let most : count w ≤ count v = grind (arith, nat_tests) in
       AllPairs-cons Before v (w ∷ rest)

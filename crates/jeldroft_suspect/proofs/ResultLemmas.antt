@@ -11,6 +11,7 @@ use Rattle.row_text.specs.RowFiles.{row_seen}
 use Rattle.row_text.specs.declared.row_file.FileRow.{FileRow}
 use Rattle.row_text.specs.declared.rows_fault.RowsFault.{RowsFault}
 use Rattle.row_text.specs.declared.rows_fault.RowsFault.TheVariants as rows
+use Rattle.row_text.proofs.SeenRows.{suite_rows}
 use Rattle.suspect_tuples.proofs.ResultSteps.{read_under_header}
 use Rattle.suspect_tuples.specs.Results.{refused_as}
 use Rattle.suspect_tuples.specs.declared.result_file.ResultFile.{ResultFile}
@@ -18,7 +19,6 @@ use Rattle.command_line.specs.declared.stop.Stop.{Stop}
 use Rattle.command_line.specs.declared.stop.Stop.TheVariants.{NoResult, OutOfMemory}
 use Rattle.jeldroft_files.specs.believed.Failures.{status_of}
 use Rattle.jeldroft_files.specs.declared.failure.Cause.TheVariants as causes
-use Rattle.jeldroft_inputs.proofs.InputLemmas.{suite_rows}
 use Rattle.jeldroft_inputs.specs.Inputs.{EndsBy}
 use Rattle.jeldroft_inputs.specs.believed.Inputs.{and_then, rows_or_cause, unless}
 use Rattle.jeldroft_suspect.specs.Due.{stop_of_fault}

@@ -1,11 +1,10 @@
 -- The words of a generator, one behind another, and texts of lists, item by item.
-use Rattle.std.proofs.Common.{◌≡◌, ℕ, zero, suc, ◌+◌, ◌*◌, ◌-◌, ◌%◌, ◌<◌, ◌≤◌, List, [], ◌∷◌, ◌++◌, All, length, map, get_or, slice_index, refl, sym, ap, ◌∙◌, append_assoc, add-one, arith}
+use Rattle.std.proofs.Common.{◌≡◌, ℕ, zero, suc, ◌+◌, ◌*◌, ◌-◌, ◌%◌, ◌<◌, ◌≤◌, List, [], ◌∷◌, ◌++◌, All, length, map, get_or, slice_index, refl, sym, ap, ◌∙◌, add-one, arith}
 use Rattle.std.proofs.lemmas.List.{append-nil}
 use Rattle.std.proofs.lemmas.List.Elements.{All-from_get_or}
 use Rattle.std.proofs.lemmas.List.FromFn.{get_or-map-range_with_len, length-map-range_with_len, map-range_with_len_more}
-use Rattle.std.proofs.lemmas.Grind.{flat_map-append}
-use Rattle.value_text.proofs.ListLemmas.{range_with_len_more}
-use Rattle.std.specs.List.{flat_map, range_with_len}
+use Rattle.value_text.proofs.ListLemmas.{text_more}
+use Rattle.std.specs.List.{range_with_len}
 use Rattle.rand_pcg.specs.Lcg.{Lcg}
 use Rattle.rand_pcg.specs.Pcg.{pcg32}
 use Rattle.made_models.specs.believed.Words.{after_words, made_generator, word_of}
@@ -49,18 +48,6 @@ draws_four g a b c d w x y z one two three four =
       fourth = ap (λ p. p.0) four ∙ ap (λ s. (pcg32 s).0) at_c;
       last = ap (λ p. p.1) four ∙ ap (λ s. (pcg32 s).1) at_c;
     }
-
--- one item more
-flat_map-range : {X : Type 0} (f : ℕ → List X) (n : ℕ) → flat_map f (range_with_len 0 n) ++ f n ≡ flat_map f (range_with_len 0 (n + 1))
-flat_map-range f n =
-    let last : range_with_len 0 (n + 1) ≡ range_with_len 0 n ++ n ∷ [] = range_with_len_more 0 n ∙ ap (λ k. range_with_len 0 n ++ k ∷ []) (omega arith) in
-    ap (λ text. flat_map f (range_with_len 0 n) ++ text) (sym (append-nil (f n)))
-    ∙ sym (flat_map-append f (range_with_len 0 n) (n ∷ [])) ∙ ap (flat_map f) (sym last)
-
-pub text_more : (f : ℕ → List ℕ) (n : ℕ) (before now after : List ℕ) → now ≡ before ++ flat_map f (range_with_len 0 n) → after ≡ now ++ f n
-    → after ≡ before ++ flat_map f (range_with_len 0 (n + 1))
-text_more f n before now after so_far next =
-    next ∙ ap (λ text. text ++ f n) so_far ∙ append_assoc before (flat_map f (range_with_len 0 n)) (f n) ∙ ap (λ text. before ++ text) (flat_map-range f n)
 
 -- the parameters one after another
 pub record PushedParameters (n number : ℕ) (before now : List ℕ) (counts : List ℕ) (words : Lcg) : Type 0 where

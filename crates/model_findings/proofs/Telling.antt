@@ -1,5 +1,5 @@
 -- What is told of one item more.
-use Rattle.std.proofs.Common.{◌≡◌, ℕ, zero, suc, ◌+◌, ◌<◌, List, [], ◌∷◌, ◌++◌, get_or, length, map, take, flat_map, ap, sym, ◌∙◌, zero-add, All, subst, arith}
+use Rattle.std.proofs.Common.{◌≡◌, ℕ, zero, suc, ◌+◌, ◌<◌, List, [], ◌∷◌, ◌++◌, get_or, length, map, take, flat_map, ap, sym, ◌∙◌, zero-add, All, subst, arith, add-one}
 use Rattle.std.proofs.lemmas.Grind.{flat_map-append}
 use Rattle.std.proofs.lemmas.List.{append_assoc, get_or-map, length-map, take_more}
 use Rattle.model_lint.proofs.Steps.{append_nothing}
@@ -14,15 +14,12 @@ told_more told n k (x ∷ xs) (suc i) d within is =
     ap (λ rest. told n x ++ rest) (told_more told (suc n) k xs i d (omega (arith, within)) (omega (arith, is)))
     ∙ sym (append_assoc (told n x) (told_from told (suc n) (take i xs)) (told k (get_or xs i d)))
 
-more : (i : ℕ) → suc i ≡ i + 1
-more i = omega arith
-
 pub next_told : {X : Type 0} (told : ℕ → X → List Fact) (xs : List X) (i : ℕ) (x : X) (before list next : List Fact) → i < length xs → get_or xs i x ≡ x
     → list ≡ before ++ told_from told 0 (take i xs) → next ≡ list ++ told i x → next ≡ before ++ told_from told 0 (take (i + 1) xs)
 next_told told xs i x before list next within is so_far longer =
     longer ∙ ap (λ front. front ++ told i x) so_far
     ∙ append_assoc before (told_from told 0 (take i xs)) (told i x)
-    ∙ ap (λ rest. before ++ rest) (ap (λ y. told_from told 0 (take i xs) ++ told i y) (sym is) ∙ sym (told_more told 0 i xs i x within (zero-add i)) ∙ ap (λ j. told_from told 0 (take j xs)) (more i))
+    ∙ ap (λ rest. before ++ rest) (ap (λ y. told_from told 0 (take i xs) ++ told i y) (sym is) ∙ sym (told_more told 0 i xs i x within (zero-add i)) ∙ ap (λ j. told_from told 0 (take j xs)) (sym (add-one i)))
 
 -- the same of items that are mapped
 pub next_mapped : {X Y : Type 0} (f : X → Y) (told : ℕ → Y → List Fact) (xs : List X) (i : ℕ) (x : X) (before list next : List Fact) → i < length xs → get_or xs i x ≡ x

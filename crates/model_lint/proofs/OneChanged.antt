@@ -4,6 +4,7 @@ use Rattle.std.specs.Prelude.{◌==◌, nat_le}
 use Rattle.std.specs.List.{list_all, list_any}
 use Rattle.std.proofs.lemmas.Bool.{and_parts, and_from, cases_eq, eq-eqb, ne_eqb, not_from_false, false≢true}
 use Rattle.std.proofs.lemmas.List.{get_or-set_same, get_or-set_other, get_or-replicate, length-replicate}
+use Rattle.std.proofs.Math.Bool.{and-true}
 use Rattle.cov_model.specs.believed.Meaning.{body_holds, pred_holds}
 use Rattle.cov_model.specs.believed.Rows.{contains}
 use Rattle.cov_model.specs.believed.Sound.{ModelView, IsSound}
@@ -39,10 +40,6 @@ opposite_holds m (Plain pred) row = refl
 opposite_holds m (IfThen premise pred) row = opposite_then (pred_holds m premise row) (pred_holds m pred row)
 opposite_holds m (IfElse premise pred else_pred) row = opposite_else (pred_holds m premise row) (pred_holds m pred row) (pred_holds m else_pred row)
 
-premise_plain : (a : Bool) → a ≡ (a && true)
-premise_plain true = refl
-premise_plain false = refl
-
 premise_then : (a b : Bool) → (a && (b && true)) ≡ ((not a || b) && a)
 premise_then true true = refl
 premise_then true false = refl
@@ -55,7 +52,7 @@ premise_else false b true = refl
 premise_else false b false = refl
 
 pub premise_too : (m : ModelView) (body : BodyView) (row : List (Option ℕ)) → body_holds m (changed_body WithPremise body) row ≡ (body_holds m body row && premise_holds m body row)
-premise_too m (Plain pred) row = premise_plain (pred_holds m pred row)
+premise_too m (Plain pred) row = sym (and-true (pred_holds m pred row))
 premise_too m (IfThen premise pred) row = premise_then (pred_holds m premise row) (pred_holds m pred row)
 premise_too m (IfElse premise pred else_pred) row = premise_else (pred_holds m premise row) (pred_holds m pred row) (pred_holds m else_pred row)
 
@@ -136,7 +133,7 @@ module _ (m : ModelView) (rule : RuleView) (sound : IsSound m) (own : Has m.rule
   pub one_test : has_test (changed m changes) (no_values m) ≡ list_any (λ row. valid_with m (others m rule) row && body_holds m (changed_body change rule.body) row) (all_rows m)
   one_test =
       any_agree (λ row. is_valid (changed m changes) row && contains row (no_values m)) (λ row. valid_with m (others m rule) row && body_holds m (changed_body change rule.body) row)
-      (all_rows m) (λ row has. ap (λ b. is_valid (changed m changes) row && b) (contains-nothing (length m.params) row) ∙ sym (premise_plain (is_valid (changed m changes) row)) ∙ one_valid row)
+      (all_rows m) (λ row has. ap (λ b. is_valid (changed m changes) row && b) (contains-nothing (length m.params) row) ∙ and-true (is_valid (changed m changes) row) ∙ one_valid row)
 
 -- so a constraint never excludes where the opposite can't be met
 all_filter : (f g : List (Option ℕ) → Bool) (rows : List (List (Option ℕ))) → not (list_any (λ row. g row && not (f row)) rows) ≡ list_all f (filter g rows)

@@ -1,23 +1,24 @@
 -- In which slices tests are: a test contains a partial row exactly if it is extendable in one of the slices.
-use Rattle.std.proofs.Common.{◌≡◌, ◌≢◌, ℕ, ◌<◌, Bool, true, false, ◌||◌, ◌&&◌, not, List, [], map, length, get_or, Option, Some, None, is_some, unwrap_or, inl, inr, zero-add, refl, ap, sym, subst, ◌∙◌, arith}
+use Rattle.std.proofs.Common.{◌≡◌, ◌≢◌, ℕ, ◌<◌, true, false, ◌||◌, ◌&&◌, List, [], map, length, get_or, Option, Some, None, is_some, unwrap_or, inl, inr, zero-add, refl, ap, sym, subst, ◌∙◌, arith}
 use Rattle.std.specs.Prelude.{◌==◌, nat_le}
 use Rattle.std.specs.List.{list_all}
 use Rattle.std.proofs.lemmas.Bool.{and_parts, and_from, or_left, or_right, or_cases, eqb-true, false_from_ne_true, false≢true}
 use Rattle.std.proofs.lemmas.List.FromFn.{length-map-range_with_len, get_or-map-range_with_len}
+use Rattle.std.proofs.Math.Bool.{or-false}
 use Rattle.cov_model.specs.declared.slice.Slice.{Slice}
 use Rattle.cov_model.specs.declared.slice.Slice.TheVariants.{Positive, Negative}
-use Rattle.cov_model.specs.believed.Sound.{ModelView, param_at}
+use Rattle.cov_model.specs.believed.Sound.{ModelView}
 use Rattle.cov_model.specs.Fits.{FitsModel}
 use Rattle.cov_model.specs.believed.Rows.{contains, is_assigned, value_in}
 use Rattle.cov_model.specs.believed.Meaning.{value_at}
 use Rattle.cov_model.specs.believed.Valid.{is_row, is_valid, has_value, negatives, param_numbers}
-use Rattle.cov_model.specs.believed.Slices.{value_numbers, positive_values, slice_values, slice_of}
-use Rattle.cov_model.proofs.CellLemmas.{assigned_within, contains-refl, contains-value_in, length-slice_values, slice_values-positive, slice_values-own, slice_values-other}
+use Rattle.cov_model.specs.believed.Slices.{value_numbers, slice_values, slice_of}
+use Rattle.cov_model.proofs.CellLemmas.{assigned_within, contains-refl, contains-value_in, length-slice_values}
 use Rattle.definitions.specs.believed.Completion.{completions, first_completion, has_slice, is_extendable, meets_rules}
 use Rattle.definitions.specs.believed.Demand.{is_among}
 use Rattle.definitions.specs.believed.Figures.{all_rows}
 use Rattle.definitions.specs.SliceRows.{IsOfSlice, IsSliceOf}
-use Rattle.definitions.proofs.Members.{Has, all_pass, among_has, any_member, has_filter, of_any, of_among, of_filter, passes_all, same_answer}
+use Rattle.definitions.proofs.Members.{Has, all_pass, among_has, any_member, of_any, passes_all, same_answer}
 use Rattle.definitions.proofs.Choices.{choice_at, choice_from, choice_completes, completion_is}
 use Rattle.definitions.proofs.SliceLemmas.{IsSlice, choice_is_row, choice_is_valid, has_numbers, has_params, negative_exists, of_negatives, of_params, row_in_slice, slice_is, slice_of_is}
 use Rattle.definitions.proofs.Serving.{of_serves, served_is_choice, value_of}
@@ -104,30 +105,6 @@ by_slices m cells = same_answer (is_extendable m Positive cells || in_some_negat
         let parts = and_parts (is_valid m row.0) (contains row.0 cells) row.2 in
         at (slice_of m row.0) (slice_of_is m row.0) (own_slice m row.0 cells parts.0 parts.1)
 
--- which values a slice has
-positive_has : (m : ModelView) (p v : ℕ) → v < length (param_at m.params p).values → not (value_at m p v).negative ≡ is_among (positive_values m p) v
-positive_has m p v exists =
-    same_answer (not (value_at m p v).negative) (is_among (positive_values m p) v)
-    (λ plain. among_has (positive_values m p) v (has_filter (λ w. not (value_at m p w).negative) (value_numbers m p) v (has_numbers m p v exists) plain))
-    (λ among. (of_filter (λ w. not (value_at m p w).negative) (value_numbers m p) v (of_among (positive_values m p) v among)).1)
-
-pub listed_positive : (m : ModelView) (p v : ℕ) → p < length m.params → v < length (param_at m.params p).values
-    → not (value_at m p v).negative ≡ is_among (get_or (slice_values m Positive) p []) v
-listed_positive m p v within exists = positive_has m p v exists ∙ ap (λ vs. is_among vs v) (sym (slice_values-positive m p within))
-
-pub listed_other : (m : ModelView) (q w p v : ℕ) → p < length m.params → p ≢ q → v < length (param_at m.params p).values
-    → not (value_at m p v).negative ≡ is_among (get_or (slice_values m (Negative q w)) p []) v
-listed_other m q w p v within apart exists = positive_has m p v exists ∙ ap (λ vs. is_among vs v) (sym (slice_values-other m q w p within apart))
-
-or_none : (b : Bool) → b ≡ (b || false)
-or_none true = refl
-or_none false = refl
-
-pub listed_own : (m : ModelView) (q w p v : ℕ) → p < length m.params → p ≡ q → (w == v) ≡ is_among (get_or (slice_values m (Negative q w)) p []) v
-listed_own m q w p v within same =
-    or_none (w == v) ∙ ap (λ vs. is_among vs v)
-    (sym (ap (λ r. get_or (slice_values m (Negative q w)) r []) same ∙ slice_values-own m q w (subst (λ r. r < length m.params) same within)))
-
 -- a partial row with a value that the slice hasn't isn't extendable there
 pub cell_fails : (m : ModelView) (slice : Slice) (cells : List (Option ℕ)) (p : ℕ) → p < length m.params
     → is_cell_of m slice p (get_or cells p None) ≡ false → is_extendable m slice cells ≡ false
@@ -151,10 +128,6 @@ cells_of_slice m slice cells fits each = record { fits = fits; listed = λ p has
         → is_among (get_or (slice_values m slice) p []) (unwrap_or cell 0) ≡ true
     at p None has is = absurd (false≢true has)
     at p (Some v) has is = is
-
-pub slice_exists : (m : ModelView) (slice : Slice) → IsSliceOf m slice → IsSlice m slice
-slice_exists m Positive is = tt
-slice_exists m (Negative q v) is = (is.0, is.2)
 
 -- the first completion is a test of the slice
 pub completed_test : (m : ModelView) (pref : List (List ℕ)) (slice : Slice) (cells row : List (Option ℕ)) → IsSliceOf m slice

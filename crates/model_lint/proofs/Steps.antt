@@ -1,23 +1,17 @@
 -- One item more in a loop.
-use Rattle.std.proofs.Common.{◌≡◌, ℕ, suc, ◌+◌, ◌-◌, ◌<◌, Bool, true, false, ◌||◌, cond, List, [], ◌∷◌, ◌++◌, map, length, get_or, take, filter, flat_map, zero-add, refl, ap, sym, ◌∙◌, arith}
+use Rattle.std.proofs.Common.{◌≡◌, ℕ, ◌+◌, ◌-◌, ◌<◌, Bool, true, false, ◌||◌, cond, List, [], ◌∷◌, ◌++◌, map, length, get_or, take, filter, flat_map, zero-add, refl, ap, sym, ◌∙◌}
 use Rattle.std.specs.Prelude.{IfOk, Result, Ok, Err}
 use Rattle.std.specs.List.{list_any, range_with_len}
 use Rattle.std.proofs.lemmas.Grind.{flat_map-append}
 use Rattle.std.proofs.lemmas.List.{append_assoc, map-append, take_more}
 use Rattle.std.proofs.lemmas.List.Elements.{filter-append}
 use Rattle.value_text.specs.declared.no_memory.NoMemory.{NoMemory}
-use Rattle.value_text.proofs.ListLemmas.{range_with_len_more}
+use Rattle.value_text.proofs.ListLemmas.{range_with_len_more, range_step}
 use Rattle.cov_model.specs.declared.constraint.Pred.{Pred}
 use Rattle.cov_model.specs.believed.Sound.{ModelView}
 use Rattle.cov_model.specs.believed.Views.{PredView, PredViews, End, More, RuleView}
 use Rattle.cov_model.specs.Views.{pred_view, preds_in}
 use Rattle.model_lint.specs.believed.Tests.{is_unused}
-
--- the numbers from one on are it and those behind it
-pub range_step : (p count : ℕ) → p < count → range_with_len p (count - p) ≡ p ∷ range_with_len (p + 1) (count - (p + 1))
-range_step p count within =
-    let longer : count - p ≡ suc (count - (p + 1)) = omega arith in
-    ap (range_with_len p) longer
 
 pub any_step : (test : ℕ → Bool) (p count : ℕ) → p < count
     → list_any test (range_with_len p (count - p)) ≡ (test p || list_any test (range_with_len (p + 1) (count - (p + 1))))

@@ -1,7 +1,7 @@
 -- How marked constraints become a conflict.
 use Rattle.std.proofs.Common.{◌≡◌, ℕ, zero, suc, ◌+◌, ◌-◌, ◌<◌, ◌≤◌, Bool, true, false, ◌&&◌, not, List, [], ◌∷◌, map, length, get_or, set, find, filter, Option, Some, None, inl, inr, refl, ap, sym, subst, ◌∙◌, arith}
 use Rattle.std.specs.Prelude.{◌==◌, nat_le, sum_by, if◌then◌else◌}
-use Rattle.std.proofs.Math.Bool.{and-false}
+use Rattle.std.proofs.Math.Bool.{and-false, and-true}
 use Rattle.std.proofs.lemmas.Bool.{and_parts, cases_eq, eq-eqb, false_from_ne_true, false≢true, leb-true, ne_eqb, not-true}
 use Rattle.std.proofs.lemmas.List.{get_or_default, get_or-set_other, length-set, set-get_or, set-set}
 use Rattle.std.proofs.lemmas.List.Sums.{sum_by-set}
@@ -191,13 +191,9 @@ without_one marks among n k some_n some_k is =
           ap (λ b. among && not b) (eq-eqb n k same) ∙ and-false among
           ∙ sym (ap (λ x. get_or (set marks (k - 1) false) (x - 1) false) same ∙ cleared_here marks (k - 1))
       | inr apart ↦
-          ap (λ b. among && not b) (ne_eqb n k apart) ∙ and_true among ∙ is
+          ap (λ b. among && not b) (ne_eqb n k apart) ∙ and-true among ∙ is
           ∙ sym (get_or-set_other marks (k - 1) (n - 1) false false (λ same. apart (omega (arith, same, some_n, some_k))))
     ]
-  where
-    and_true : (b : Bool) → (b && true) ≡ b
-    and_true true = refl
-    and_true false = refl
 
 pub conflict_from : (m : ModelView) (slice : Slice) (cells : List (Option ℕ)) (marks : List Bool) (n : ℕ) (numbers : List ℕ) → IsSound m → IsThinTo m slice cells marks n
     → n ≡ length marks → numbers ≡ filter (is_marked marks) (rule_numbers m) → IsConflict m slice cells numbers

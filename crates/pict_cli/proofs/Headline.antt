@@ -94,7 +94,7 @@ within_limits (Some fault) true rest is e = absurd (none-some (stop_of_plan faul
 within_limits (Some fault) false rest is e = absurd (false≢true is)
 
 -- the second of two limits isn't passed
-second_false : {X : Type 0} (x y : X) (first second : Bool) → (if first then Some x else if second then Some y else None) ≡ None → second ≡ false
+pub second_false : {X : Type 0} (x y : X) (first second : Bool) → (if first then Some x else if second then Some y else None) ≡ None → second ≡ false
 second_false x y true second none = absurd (none-some x (sym none))
 second_false x y false true none = absurd (none-some y (sym none))
 second_false x y false false none = refl

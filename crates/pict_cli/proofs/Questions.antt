@@ -2,15 +2,11 @@
 use Rattle.std.proofs.Common.{◌≡◌, ℕ, List, Option, None, Some, Err, inl, inr, refl, sym, ap, subst, ◌∙◌}
 use Rattle.std.specs.Prelude.{◌≢◌, ◌⊎◌, option_map}
 use Rattle.std.proofs.lemmas.Option.{none-some, same_Some}
-use Rattle.value_text.proofs.ListLemmas.{nothing_found}
 use Rattle.outside_io.specs.believed.Seen.{FolderSeen, KeepsReadFaults}
-use Rattle.cov_model.specs.believed.Sound.{ModelView}
 use Rattle.definitions.specs.declared.effort.Effort.{Effort}
 use Rattle.definitions.specs.declared.effort.Effort.TheVariants.{Within, Full}
 use Rattle.definitions.specs.believed.Pairs.{pairs_of}
-use Rattle.definitions.specs.believed.Search.{exceeds, first_over, question_cost}
 use Rattle.definitions.specs.believed.Settings.{Settings}
-use Rattle.feasibility.specs.Ends.{EndsBy}
 use Rattle.feasibility.specs.declared.answer.Question.{Question}
 use Rattle.feasibility.specs.declared.answer.SearchFault.{SearchFault}
 use Rattle.feasibility.specs.declared.answer.SearchFault.TheVariants as faults
@@ -22,17 +18,6 @@ use Rattle.pict_cli.specs.Ends.{IsAnswered, IsEarly}
 use Rattle.pict_cli.specs.believed.Runs.{spent_at}
 use Rattle.pict_cli.specs.Steps.{IsDueOrNoMemory, StopsWork, is_due, no_memory}
 use Rattle.pict_cli.proofs.Early.{reads_stopped, stopped_answered}
-
--- no question is above the budget where there is none
-first_over_full : (m : ModelView) (pref : List (List ℕ)) (questions : List (List (Option ℕ))) → first_over m pref Full questions ≡ None
-first_over_full m pref questions = nothing_found (λ cells. exceeds Full (question_cost m pref cells)) questions (λ k d within. refl)
-
-pub ends_full : (m : ModelView) (pref : List (List ℕ)) (effort : Effort) (questions : List (List (Option ℕ))) (fault : SearchFault)
-    → EndsBy (first_over m pref effort questions) fault → effort ≡ Full → fault ≡ faults.NoMemory
-ends_full m pref (Within budget) questions fault ends full = let no : ⊥ = cc in absurd no
-ends_full m pref Full questions (faults.Spent question) ends full =
-    absurd (none-some question.cells (subst (λ over. option_map pairs_of over ≡ Some question.cells) (first_over_full m pref questions) ends))
-ends_full m pref Full questions faults.NoMemory ends full = refl
 
 pub not_spent : (fault : SearchFault) (question : Question) → fault ≡ faults.NoMemory → fault ≡ faults.Spent question → ⊥
 not_spent fault question memory spent = let none : faults.NoMemory ≡ faults.Spent question = sym memory ∙ spent in cc

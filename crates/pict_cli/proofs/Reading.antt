@@ -21,10 +21,6 @@ use Rattle.pict_cli.specs.Steps.{RanOn}
 use Rattle.pict_cli.proofs.Early.{leaves_early, leaves_from, proof_from, stopped_answered}
 use Rattle.pict_cli.proofs.RunEnds.{ends_loaded, reading_ends}
 
--- what is said of what is told, if it is
-pub at_told : {A : Type 0} (P : A → Type 0) (o : Option A) (x : A) → o ≡ Some x → IfSome o P → P x
-at_told P o x e h = subst (λ found. IfSome found P) e h
-
 if_told : {A : Type 0} (P : A → Type 0) (o : Option A) → ((x : A) → o ≡ Some x → P x) → IfSome o P
 if_told P None says = tt
 if_told P (Some x) says = says x refl

@@ -265,7 +265,7 @@ still_of Unanswered before after early still = still
 still_of Stopped before after early still = still
 
 -- the format that is asked for is 1 or 2
-a_form : (form : ProofForm) → (format_of form ≡ 1) ⊎ (format_of form ≡ 2)
+pub a_form : (form : ProofForm) → (format_of form ≡ 1) ⊎ (format_of form ≡ 2)
 a_form One = inl refl
 a_form Two = inr refl
 

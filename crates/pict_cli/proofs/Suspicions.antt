@@ -11,6 +11,7 @@ use Rattle.definitions.specs.believed.Limits as limits
 use Rattle.definitions.specs.believed.Limits.{RowFile, most_bytes, most_counted}
 use Rattle.row_text.specs.RowFiles.{suite_seen}
 use Rattle.row_text.specs.declared.rows_fault.RowsFault.TheVariants as rows_faults
+use Rattle.row_text.proofs.SeenRows.{suite_rows}
 use Rattle.suspect_tuples.specs.believed.ResultReading.{ResultReading, read_results}
 use Rattle.suspect_tuples.specs.Results.{HoldsResults, result_fault_of}
 use Rattle.suspect_tuples.specs.believed.Suspects as found
@@ -29,7 +30,6 @@ use Rattle.pict_cli.specs.believed.Modes.{RowSource, RowsHeld, Suspect, makes_pl
 use Rattle.pict_cli.specs.believed.RowSources.{or_result_stop, read_result_bytes, read_source}
 use Rattle.pict_cli.specs.believed.Runs.{candidates_stop, limit_due, suite_in}
 use Rattle.pict_cli.specs.Steps.{HoldsResultsOf, IsDueOrNoMemory, StopsRows, StopsWork, is_due, is_refused, no_memory, no_room, stop_of_results_fault}
-use Rattle.pict_cli.proofs.Measured.{suite_rows}
 use Rattle.pict_cli.proofs.RowFiles.{source_held}
 
 -- what was read

@@ -1,20 +1,13 @@
 -- Texts without control characters.
-use Rattle.std.proofs.Common.{◌≡◌, ℕ, suc, ◌<◌, ◌≤◌, ◌++◌, true, false, List, [], ◌∷◌, length, refl, ap, sym, ◌∙◌, get_or, append-nil, inl, inr, arith}
+use Rattle.std.proofs.Common.{◌≡◌, ℕ, suc, ◌<◌, ◌≤◌, ◌++◌, true, false, List, [], ◌∷◌, length, refl, ap, ◌∙◌, get_or, inl, inr, arith}
 use Rattle.std.specs.Prelude.{encode_utf8}
 use Rattle.std.specs.Char.{is_control}
 use Rattle.std.proofs.lemmas.Bool.Decides.{leb_tells, nat_tests}
 use Rattle.std.proofs.lemmas.List.Folds.{list_all-append}
-use Rattle.std.proofs.lemmas.Str.{encode_ascii, inside_one}
+use Rattle.std.proofs.lemmas.Str.{encode_ascii}
 use Rattle.cov_model.specs.believed.Names.{is_plain}
 use Rattle.refusal_places.specs.Told.{is_clean}
-
--- the bytes of a character that is not ASCII
-high_byte : (c k : ℕ) → 128 ≤ c → k < length (encode_utf8 c) → 128 ≤ get_or (encode_utf8 c) k 0
-high_byte c k high within =
-    elim (leb_tells 128 (get_or (encode_utf8 c) k 0)) [
-      | inl is ↦ is.1
-      | inr low ↦ let same = inside_one c [] (encode_utf8 c) k (sym (append-nil (encode_utf8 c))) within low.1 in omega arith
-    ]
+use Rattle.value_text.proofs.CharLemmas.{high_byte}
 
 high_plain : (b : ℕ) → 128 ≤ b → is_plain b ≡ true
 high_plain b high = grind (arith, nat_tests)

@@ -3,15 +3,15 @@ use Rattle.std.proofs.Common.{◌≡◌, ℕ, ◌<◌, true, List, [], length, g
 use Rattle.std.specs.Option.{option_map_or}
 use Rattle.std.proofs.lemmas.Bool.{false≢true}
 use Rattle.cov_model.specs.declared.slice.Slice.{Slice}
-use Rattle.cov_model.specs.declared.slice.Slice.TheVariants.{Positive, Negative}
 use Rattle.cov_model.specs.believed.Sound.{ModelView}
 use Rattle.cov_model.specs.believed.Rows.{is_assigned, value_in}
 use Rattle.cov_model.specs.believed.Slices.{slice_values}
 use Rattle.cov_model.proofs.CellLemmas.{assigned_within, length-slice_values}
 use Rattle.definitions.specs.believed.Demand.{is_among}
-use Rattle.definitions.specs.SliceRows.{IsOfSlice, IsSliceOf}
+use Rattle.definitions.specs.SliceRows.{IsOfSlice}
 use Rattle.definitions.proofs.Members.{of_among}
-use Rattle.definitions.proofs.SliceLemmas.{IsSlice, value_exists}
+use Rattle.definitions.proofs.SliceLemmas.{value_exists}
+use Rattle.definitions.proofs.SliceValues.{slice_exists}
 use Rattle.row_completer.specs.SliceValues.{AreValuesOf}
 
 -- the cell of a parameter has no value, or one that is listed
@@ -23,17 +23,13 @@ listed_value : (values : List ℕ) (cell : Option ℕ) → is_some cell ≡ true
 listed_value values None assigned listed = absurd (false≢true assigned)
 listed_value values (Some v) assigned listed = listed
 
-own_slice : (m : ModelView) (slice : Slice) → IsSliceOf m slice → IsSlice m slice
-own_slice m Positive own = tt
-own_slice m (Negative q v) own = (own.0, own.2)
-
 pub of_slice : (m : ModelView) (slice : Slice) (lists : List (List ℕ)) (cells : List (Option ℕ)) → AreValuesOf m slice lists → length cells ≡ length lists
     → ((p : ℕ) → p < length cells → IsListedAt lists cells p) → IsOfSlice m slice cells
 of_slice m slice lists cells values long each =
     record {
       fits = record {
         as_long = as_long;
-        exist = λ p assigned. value_exists m slice p (value_in cells p) (own_slice m slice values.own)
+        exist = λ p assigned. value_exists m slice p (value_in cells p) (slice_exists m slice values.own)
             (subst (λ n. p < n) as_long (assigned_within cells p assigned)) (of_among (get_or (slice_values m slice) p []) (value_in cells p) (listed p assigned));
       };
       listed = listed;

@@ -6,6 +6,7 @@ use Rattle.std.proofs.Math.ListN.{length-map}
 use Rattle.std.proofs.lemmas.Bool.{cases_Bool, ne_eqb, or_parts}
 use Rattle.std.proofs.lemmas.List.{map-append}
 use Rattle.std.proofs.lemmas.List.Elements.{recursion_from_All}
+use Rattle.std.proofs.lemmas.Simd.{map-map}
 use Rattle.model_lex.specs.believed.Lines.{byte_order_mark, without_mark}
 use Rattle.comma_rows.specs.declared.position.Position.{Position}
 use Rattle.comma_rows.specs.declared.comma_fault.CommaFault.{CommaFault}
@@ -245,13 +246,9 @@ cells-of (cell ∷ cells) = ap (with_cell cell) (cells-of cells)
 abbrev told_texts : Reading → Result (List (List (List ℕ))) CommaFault
 told_texts reading = unless_fault reading.fault (map (map (λ cell. cell.text)) (rows_of (λ cell. cell.ends_row) reading.cells))
 
-map-twice : {A B C : Type 0} (f : B → C) (g : A → B) (xs : List A) → map f (map g xs) ≡ map (λ x. f (g x)) xs
-map-twice f g [] = refl
-map-twice f g (x ∷ xs) = ap (λ (l : _). f (g x) ∷ l) (map-twice f g xs)
-
 maps-twice : (rows : List (List Cell)) → map (map (λ cell. cell.0)) (map (map seen) rows) ≡ map (map (λ cell. cell.text)) rows
 maps-twice [] = refl
-maps-twice (row ∷ rows) = ap₂ (λ (r : List (List ℕ)) (rs : List (List (List ℕ))). r ∷ rs) (map-twice (λ (cell : List ℕ × Bool). cell.0) seen row) (maps-twice rows)
+maps-twice (row ∷ rows) = ap₂ (λ (r : List (List ℕ)) (rs : List (List (List ℕ))). r ∷ rs) (map-map (λ (cell : List ℕ × Bool). cell.0) seen row) (maps-twice rows)
 
 run-texts : (before : Reading) (rows : List (List (List ℕ))) → AllByRecursion HasCell rows → TableRun before rows → told_texts before ≡ Ok rows
 run-texts before rows has run =

@@ -8,3 +8,4 @@ pub mod RowSteps
 pub mod ColumnSteps
 pub mod ReadingSteps
 pub mod NameSteps
+pub mod SeenRows

@@ -1,17 +1,12 @@
 -- How many of the numbers below one pass a test.
 use Rattle.std.proofs.Common.{◌≡◌, ℕ, zero, suc, ◌+◌, ◌<◌, ◌≤◌, Bool, true, false, ◌&&◌, not, cond, [], ◌∷◌, ◌++◌}
-use Rattle.std.proofs.Common.{count_by, eqb, All, inl, inr, ◌⊎◌, refl, sym, ap, ◌∙◌, arith, zero-add, add-one}
+use Rattle.std.proofs.Common.{count_by, eqb, inl, inr, ◌⊎◌, refl, sym, ap, ◌∙◌, arith, zero-add, add-one}
 use Rattle.std.specs.List.{range_with_len}
 use Rattle.std.proofs.Math.Bool.{and-false, and-true}
 use Rattle.std.proofs.lemmas.Bool.{false≢true, cases_Bool, cases_eq, eq-eqb, false_from_ne_true, ne_eqb}
-use Rattle.std.proofs.lemmas.List.Elements.{All-from_get_or}
-use Rattle.std.proofs.lemmas.List.FromFn.{get_or-range_with_len, length-range_with_len}
+use Rattle.std.proofs.lemmas.List.FromFn.{length-range_with_len}
 use Rattle.std.proofs.lemmas.List.Sums.{count_by-le-length, sum_by-append}
 use Rattle.value_text.proofs.ListLemmas.{range_with_len_more}
-
-pub below_all : (n : ℕ) → All (λ x. x < n) (range_with_len 0 n)
-below_all n = All-from_get_or (λ x. x < n) (range_with_len 0 n) 0
-    (λ i within. let low : i < n = rw length-range_with_len at within in rw (get_or-range_with_len 0 n i 0 low ∙ zero-add i) low)
 
 abbrev pub among : (ℕ → Bool) → ℕ → ℕ
 among p n = count_by p (range_with_len 0 n)

@@ -8,9 +8,10 @@ use Rattle.seq_check.proofs.FindLemmas.{first_number}
 use Rattle.seq_check.specs.believed.Orders.{is_arrow, is_cycle, neighbours}
 use Rattle.seq_cover.specs.Building.{ExistBelow}
 use Rattle.seq_cover.specs.believed.Ways.{cycle_by, cycle_from, cycle_of, fewest, is_within, leads, next_event, way_back, with_rest}
-use Rattle.seq_check.proofs.Counting.{among, among-fewer, among-le, below_all, least, passes_among}
+use Rattle.seq_check.proofs.Counting.{among, among-fewer, among-le, least, passes_among}
 use Rattle.seq_cover.proofs.FindLaws.{found_is, number_found}
 use Rattle.seq_cover.proofs.Leading.{arrows_are}
+use Rattle.value_text.proofs.ListLemmas.{below_all}
 
 -- arrows among n events, and an event
 module _ (n : ℕ) (pairs : List (ℕ × ℕ)) (goal : ℕ) where

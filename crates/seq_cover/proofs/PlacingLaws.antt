@@ -9,11 +9,11 @@ use Rattle.std.proofs.lemmas.List.{length_push}
 use Rattle.std.proofs.lemmas.List.Elements.{All-filter, All-head, All-nil, All-push, All-tail, filter_passes}
 use Rattle.std.proofs.lemmas.List.Folds.{position_or_len_push}
 use Rattle.std.proofs.lemmas.List.Sums.{AllPass-from_list_all, length-filter, list_all-from_AllPass, prefix_len-le-length}
-use Rattle.value_text.proofs.ListLemmas.{Some-unwrap_or, list_any-position, not_or}
+use Rattle.value_text.proofs.ListLemmas.{Some-unwrap_or, list_any-position, not_or, below_all}
 use Rattle.seq_check.specs.believed.Orders.{has_each, is_among, is_arrow, keeps, place}
 use Rattle.seq_cover.specs.believed.OrderGrowth.{better, built_from, can_be_placed, gain, next_placed, with_next}
 use Rattle.seq_cover.specs.believed.Ways.{leads}
-use Rattle.seq_check.proofs.Counting.{among, among-all, among-fewer, among-same, among-without, below_all, none_among, passes_among, some_among}
+use Rattle.seq_check.proofs.Counting.{among, among-all, among-fewer, among-same, among-without, none_among, passes_among, some_among}
 use Rattle.seq_cover.specs.Building.{ExistBelow}
 use Rattle.seq_cover.proofs.BuildLemmas.{among_more}
 use Rattle.seq_cover.proofs.FindLaws.{some_fails}

@@ -17,3 +17,4 @@ pub mod LineLemmas
 pub mod OpenLemmas
 pub mod CountLemmas
 pub mod SignLemmas
+pub mod SetMarks

@@ -1,7 +1,7 @@
 -- Models without a negative value.
 use Rattle.std.proofs.Common.{inl, inr, ◌≡◌, ℕ, zero, suc, ◌+◌, ◌<◌, ◌≤◌, Bool, true, false, ◌&&◌, not, cond, List, [], ◌∷◌, map, length, get_or, All, Option, ◌∙◌, refl, ap, arith, zero-add}
 use Rattle.std.specs.List.{filter, range_with_len}
-use Rattle.std.proofs.lemmas.Bool.{cases_eq, false≢true}
+use Rattle.std.proofs.lemmas.Bool.{cases_eq, not-true}
 use Rattle.std.proofs.lemmas.List.Elements.{All-from_get_or, All-map}
 use Rattle.std.proofs.lemmas.List.FromFn.{get_or-range_with_len, length-range_with_len}
 use Rattle.value_text.proofs.ListLemmas.{length-filter-le}
@@ -31,10 +31,6 @@ all_pass f a (suc n) v whole from below = by_test (f a) refl whole (λ rest late
     ]
     by_test false first whole next = absurd (omega (arith, whole, length-filter-le f (range_with_len (a + 1) n), length-range_with_len (a + 1) n))
 
-positive : (b : Bool) → not b ≡ true → b ≡ false
-positive true passes = absurd (false≢true passes)
-positive false passes = refl
-
 -- a row has none
 pub no_negative : (m : ModelView) (cells : List (Option ℕ)) → HasNoNegative m → FitsModel m cells → slice_of m cells ≡ Positive
 no_negative m cells none fits =
@@ -49,7 +45,7 @@ no_negative m cells none fits =
     by_value p inside false is = ap (λ b. b && (given_value m cells p).negative) is
     by_value p inside true is =
         ap (λ b. b && (given_value m cells p).negative) is
-        ∙ positive (given_value m cells p).negative
+        ∙ not-true (given_value m cells p).negative
         (all_pass (λ v. not (value_at m p v).negative) 0 (length (param_at m.params p).values) (value_in cells p) (none p inside) (omega arith)
         (omega (arith, fits.exist p is)))
 

@@ -1,5 +1,5 @@
 -- How many tuples of a set rows serve in a slice, and how many rows that takes.
-use Rattle.std.proofs.Common.{◌≡◌, ℕ, ◌+◌, ◌<◌, ◌≤◌, Bool, true, false, ◌||◌, ◌&&◌, suc, cond, List, [], ◌∷◌, map, length, get_or, sum_by, Option, Some, None, is_some, unwrap_or, inl, inr, ◌∙◌, sym, ap, subst, refl, arith}
+use Rattle.std.proofs.Common.{◌≡◌, ℕ, ◌+◌, ◌<◌, ◌≤◌, Bool, true, false, ◌||◌, ◌&&◌, cond, List, [], ◌∷◌, map, length, get_or, sum_by, Option, Some, None, is_some, unwrap_or, inl, inr, ◌∙◌, sym, ap, subst, refl, arith, add-one}
 use Rattle.std.specs.Prelude.{nat_le}
 use Rattle.std.specs.List.{filter, list_all}
 use Rattle.std.proofs.lemmas.Bool.{false≢true, false_from_ne_true, cases_Bool, and_parts}
@@ -45,16 +45,13 @@ count_once test (x ∷ xs) once one =
       | inl passes ↦
           let later : count test xs ≡ 0 = count_none test xs (λ y has. false_from_ne_true (test y)
           (λ also. once.0 (subst (Has xs) (one y x (inr has) (inl refl) also passes) has))) in
-          let first : count test (x ∷ xs) ≡ count test xs + 1 = ap (λ b. length (cond b (x ∷ filter test xs) (filter test xs))) passes ∙ plus_one (count test xs) in
+          let first : count test (x ∷ xs) ≡ count test xs + 1 = ap (λ b. length (cond b (x ∷ filter test xs) (filter test xs))) passes ∙ sym (add-one (count test xs)) in
           omega (arith, first, later)
       | inr fails ↦
           let first : count test (x ∷ xs) ≡ count test xs = ap (λ b. length (cond b (x ∷ filter test xs) (filter test xs))) fails in
           let later = count_once test xs once.1 (λ y z here there. one y z (inr here) (inr there)) in
           omega (arith, first, later)
     ]
-  where
-    plus_one : (n : ℕ) → suc n ≡ n + 1
-    plus_one n = omega arith
 
 -- at most as many pass one of two tests as pass the first and as pass the second
 count_either : {X : Type 0} (f g : X → Bool) (xs : List X) → count (λ x. f x || g x) xs ≤ count f xs + count g xs

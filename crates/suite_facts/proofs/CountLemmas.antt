@@ -1,17 +1,17 @@
 -- The marks of the demanded tuples of a set, and the coverage of one set more.
-use Rattle.std.proofs.Common.{◌≡◌, ℕ, ◌+◌, ◌<◌, ◌≤◌, Bool, true, false, cond, List, [], ◌∷◌, map, length, get_or, take, drop, sum_by, Option, None, Some, suc, refl, ◌∙◌, sym, ap, subst, arith}
+use Rattle.std.proofs.Common.{◌≡◌, ℕ, ◌+◌, ◌<◌, Bool, true, false, cond, List, [], map, length, get_or, take, drop, sum_by, Option, None, Some, refl, ◌∙◌, sym, ap, subst, arith}
 use Rattle.std.specs.List.{filter}
 use Rattle.std.specs.Option.{option_map}
 use Rattle.std.specs.Prelude.{IfSome, nat_lt, sum}
-use Rattle.std.proofs.lemmas.List.{drop_all, drop_more, get_or-drop, get_or-map, get_or-take, length-drop, length-map, length-take-le, same_lists, take_all}
+use Rattle.std.proofs.lemmas.List.{drop_all, drop_more, get_or-map, length-map, take_all}
 use Rattle.std.proofs.lemmas.List.Sums.{sum_by_more}
-use Rattle.std.proofs.lemmas.Option.{get_or_from_slice_get, slice_get-get_or}
 use Rattle.cov_model.specs.believed.Sound.{ModelView}
 use Rattle.definitions.specs.believed.Demand.{demanded_sets, demanded_tuples, tuples_of}
 use Rattle.definitions.specs.believed.Figures.{covered, is_served, tests_of}
 use Rattle.tuple_index.specs.Plan.{PlanView, plan_of, set_at}
 use Rattle.shared_marks.specs.Served.{base_of}
-use Rattle.shared_marks.proofs.PlaceLemmas.{all_places, place_within, set_within, tuple_there}
+use Rattle.shared_marks.proofs.PlaceLemmas.{all_places}
+use Rattle.shared_marks.proofs.SetMarks.{set_marks}
 use Rattle.row_text.specs.declared.row_file.FileRow.{FileRow}
 use Rattle.suite_facts.specs.Coverages.{IsCoverageOf, larger, set_seen, with_set}
 use Rattle.suite_facts.specs.believed.Coverages.{numbers_of}
@@ -20,49 +20,7 @@ use Rattle.suite_facts.specs.believed.Facts.{covered_of, largest_from, largest_o
 use Rattle.suite_facts.specs.declared.coverage.Coverage.{Coverage}
 use Rattle.suite_facts.specs.declared.coverage.LargestSet.{LargestSet}
 use Rattle.suite_facts.specs.declared.coverage.SuiteNumbers.{SuiteNumbers}
-
--- as many marks are set as items pass
-pub count_marks : {X : Type 0} (test : X → Bool) (items : List X) → length (filter (λ mark. mark) (map test items)) ≡ length (filter test items)
-count_marks test [] = refl
-count_marks test (item ∷ items) = by_test (test item) (count_marks test items)
-  where
-    by_test : (b : Bool) → length (filter (λ mark. mark) (map test items)) ≡ length (filter test items)
-        → length (cond b (b ∷ filter (λ mark. mark) (map test items)) (filter (λ mark. mark) (map test items))) ≡ length (cond b (item ∷ filter test items) (filter test items))
-    by_test true later = ap suc later
-    by_test false later = later
-
--- the marks of a set stand one after another from its base on
-set_marks : (m : ModelView) (test : List (Option ℕ) → Bool) (set : ℕ) → set < length (demanded_sets m)
-    → take (length (tuples_of m (set_at (plan_of m) set))) (drop (base_of m set) (map test (demanded_tuples m))) ≡ map test (tuples_of m (set_at (plan_of m) set))
-set_marks m test set within =
-    same_lists (take size (drop base marks)) (map test tuples) (long ∙ sym (length-map tuples test)) each
-  where
-    tuples : List (List (Option ℕ))
-    tuples = tuples_of m (set_at (plan_of m) set)
-
-    size : ℕ
-    size = length tuples
-
-    base : ℕ
-    base = base_of m set
-
-    marks : List Bool
-    marks = map test (demanded_tuples m)
-
-    room : base + size ≤ length marks
-    room = omega (arith, length-map (demanded_tuples m) test, set_within m set within)
-
-    long : length (take size (drop base marks)) ≡ size
-    long = length-take-le size (drop base marks) (omega (arith, length-drop base marks, room))
-
-    each : (rank : ℕ) (d : Bool) → rank < length (take size (drop base marks)) → get_or (take size (drop base marks)) rank d ≡ get_or (map test tuples) rank d
-    each rank d inside =
-        let least : rank < size = omega (arith, inside, long) in
-        let there = place_within m set rank within least in
-        get_or-take size (drop base marks) rank d least ∙ get_or-drop base marks rank d
-        ∙ get_or-map test (demanded_tuples m) (base + rank) [] d there
-        ∙ ap test (get_or_from_slice_get (demanded_tuples m) (base + rank) (get_or tuples rank []) [] (tuple_there m set rank within least ∙ slice_get-get_or tuples rank [] least))
-        ∙ sym (get_or-map test tuples rank [] d least)
+use Rattle.value_text.proofs.ListLemmas.{count_marks}
 
 -- how many marks of a set of a plan are set
 abbrev marked : PlanView → List Bool → ℕ → ℕ

@@ -1,10 +1,9 @@
 -- The places that a seat marked, counted, and those of the tuples that the first rows cover.
-use Rattle.std.proofs.Common.{◌≡◌, ℕ, ◌+◌, ◌-◌, ◌<◌, ◌≤◌, ◌^◌, Bool, true, false, ◌||◌, cond, List, [], ◌∷◌, ◌++◌, map, take, length, get_or, Option, refl, ◌∙◌, sym, ap, subst, arith, length-append, zero-add}
+use Rattle.std.proofs.Common.{◌≡◌, ℕ, ◌+◌, ◌-◌, ◌<◌, ◌≤◌, ◌^◌, Bool, true, false, ◌||◌, cond, List, [], ◌∷◌, ◌++◌, map, take, length, get_or, Option, refl, ◌∙◌, sym, ap, subst, arith, zero-add}
 use Rattle.std.specs.Prelude.{slice_range}
 use Rattle.std.specs.Int.{from_bool}
 use Rattle.std.specs.List.{filter, range_with_len}
 use Rattle.std.proofs.lemmas.List.{map-append, same_lists, take_more}
-use Rattle.std.proofs.lemmas.List.Elements.{filter-append}
 use Rattle.std.proofs.lemmas.List.FromFn.{get_or-map-range_with_len, length-map-range_with_len}
 use Rattle.atomic_table.specs.Seated.{TableId}
 use Rattle.cov_model.specs.believed.Sound.{ModelView}
@@ -17,10 +16,9 @@ use Rattle.shared_marks.specs.Seats.{IsWhole, SeatView, first_holding, testing, 
 use Rattle.shared_marks.specs.Served.{is_served_at}
 use Rattle.shared_marks.proofs.PlaceLemmas.{none_served, served_all, served_append}
 use Rattle.shared_marks.proofs.RowLemmas.{range_joined}
-use Rattle.value_text.proofs.ListLemmas.{range_with_len_more}
+use Rattle.value_text.proofs.ListLemmas.{count_marks}
 use Rattle.suite_facts.specs.believed.Facts.{covered_of}
 use Rattle.suite_facts.specs.Marked.{HoldsCovered, KeepsMarked}
-use Rattle.suite_facts.proofs.CountLemmas.{count_marks}
 
 -- a seat that looked at a place
 tested : (place : ℕ) (is_set : Bool) (held : Holding)
@@ -48,11 +46,6 @@ kept_then before between after one two = record {
 pub whole_kept : (before after : SeatView) → KeepsMarked before after → IsWhole before.holds → IsWhole after.holds
 whole_kept before after kept whole = kept.parts ∙ whole ∙ sym (ap (λ n. 2 ^ n) kept.halvings)
 
--- one place more
-one : (test : ℕ → Bool) (n : ℕ) (b : Bool) → length (cond b (n ∷ []) []) ≡ cond b 1 0
-one test n true = refl
-one test n false = refl
-
 pub from_is : (b : Bool) → from_bool b ≡ cond b 1 0
 from_is true = refl
 from_is false = refl
@@ -60,13 +53,6 @@ from_is false = refl
 pub at_most_one : (b : Bool) → cond b 1 0 ≤ 1
 at_most_one true = omega arith
 at_most_one false = omega arith
-
-pub count_more : (test : ℕ → Bool) (n : ℕ) → length (filter test (range_with_len 0 (n + 1))) ≡ length (filter test (range_with_len 0 n)) + cond (test n) 1 0
-count_more test n =
-    ap (λ ns. length (filter test ns)) (range_with_len_more 0 n ∙ ap (λ k. range_with_len 0 n ++ k ∷ []) (zero-add n))
-    ∙ ap length (filter-append test (range_with_len 0 n) (n ∷ []))
-    ∙ length-append (filter test (range_with_len 0 n)) (filter test (n ∷ []))
-    ∙ ap (λ k. length (filter test (range_with_len 0 n)) + k) (one test n (test n))
 
 -- what the first rows cover: none
 pub covered_none : (m : ModelView) (rows : List (List (Option ℕ))) (table : TableId) (seat : SeatView) → seat ≡ record { table = table; holds = first_holding }

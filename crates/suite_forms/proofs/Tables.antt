@@ -1,8 +1,8 @@
 -- The text of a suite as it is written cell by cell and row by row.
-use Rattle.std.proofs.Common.{◌≡◌, ℕ, ◌+◌, ◌<◌, ◌≤◌, ◌==◌, Bool, false, List, [], ◌∷◌, ◌++◌, length, get_or, take, drop, sym, ap, ap₂, ◌∙◌, arith, append_assoc, add-one, drop-cons, ne_eqb}
+use Rattle.std.proofs.Common.{◌≡◌, ℕ, ◌+◌, ◌<◌, ◌≤◌, ◌==◌, Bool, false, List, [], ◌∷◌, ◌++◌, length, get_or, take, drop, sym, ap, ap₂, ◌∙◌, arith, append_assoc, ne_eqb}
 use Rattle.std.specs.Prelude.{Option, None}
 use Rattle.std.specs.List.{AllByRecursion}
-use Rattle.std.proofs.lemmas.List.{append-nil, drop_all, get_or-map, length-map, take_more}
+use Rattle.std.proofs.lemmas.List.{append-nil, drop_all, get_or-map, length-map, take_more, drop_more}
 use Rattle.std.proofs.lemmas.List.Elements.{All-from_recursion}
 use Rattle.cov_model.specs.declared.parameter.Param.{Param}
 use Rattle.cov_model.specs.believed.Sound.{ModelView, no_param, param_at}
@@ -18,9 +18,6 @@ use Rattle.suite_forms.proofs.Making.{at_param, count_of_params}
 not-first : (at : ℕ) → (at + 1 == 0) ≡ false
 not-first at = ne_eqb (at + 1) 0 (λ e. absurd (omega (arith, e)))
 
-drop-one : {X : Type 0} (xs : List X) (at : ℕ) (d : X) → at < length xs → drop at xs ≡ get_or xs at d ∷ drop (at + 1) xs
-drop-one xs at d inside = drop-cons xs at d inside ∙ ap (λ k. get_or xs at d ∷ drop k xs) (sym (add-one at))
-
 -- a piece is added, and the others are left
 pub more-added : (before bytes rest left whole : List ℕ) → left ≡ bytes ++ rest → before ++ left ≡ whole → (before ++ bytes) ++ rest ≡ whole
 more-added before bytes rest left whole cut so_far = append_assoc before bytes rest ∙ ap (λ t. before ++ t) (sym cut) ∙ so_far
@@ -31,7 +28,7 @@ cells-cut : (form : RowForm) (only : Bool) (names : List (List ℕ)) (cells : Li
     → pieces form (place == 0) only (drop place names) (drop place cells)
     ≡ piece form (place == 0) only (get_or names place []) (get_or cells place None) ++ pieces form (place + 1 == 0) only (drop (place + 1) names) (drop (place + 1) cells)
 cells-cut form only names cells place named given =
-    ap₂ (λ (ns : List (List ℕ)) (cs : List (Option (List ℕ))). pieces form (place == 0) only ns cs) (drop-one names place [] named) (drop-one cells place None given)
+    ap₂ (λ (ns : List (List ℕ)) (cs : List (Option (List ℕ))). pieces form (place == 0) only ns cs) (drop_more names place [] named) (drop_more cells place None given)
     ∙ ap (λ (first : Bool). piece form (place == 0) only (get_or names place []) (get_or cells place None) ++ pieces form first only (drop (place + 1) names) (drop (place + 1) cells))
     (sym (not-first place))
 
@@ -73,7 +70,7 @@ rows-cut : (form : RowForm) (m : ModelView) (rows : List (List (Option ℕ))) (a
 rows-cut form m rows at inside =
     let names = param_names m in
     let first = row_text form names (at == 0) (spelled_row m (take at rows) (get_or rows at [])) in
-    ap (λ (rs : List (List (Option ℕ))). rows_text form names (at == 0) (spelled_rows m (take at rows) rs)) (drop-one rows at [] inside)
+    ap (λ (rs : List (List (Option ℕ))). rows_text form names (at == 0) (spelled_rows m (take at rows) rs)) (drop_more rows at [] inside)
     ∙ ap (λ (earlier : List (List (Option ℕ))). first ++ rows_text form names false (spelled_rows m earlier (drop (at + 1) rows))) (sym (take_more rows at [] inside))
     ∙ ap (λ (b : Bool). first ++ rows_text form names b (spelled_rows m (take (at + 1) rows) (drop (at + 1) rows))) (sym (not-first at))
 

@@ -1,10 +1,10 @@
 -- Combinations that are left out, group by group as they are written.
-use Rattle.std.proofs.Common.{◌≡◌, ℕ, ◌+◌, ◌<◌, Bool, true, false, cond, List, [], ◌∷◌, ◌++◌, length, get_or, map, take, refl, sym, ap, ap₂, ◌∙◌, append-nil, arith, zero-add}
+use Rattle.std.proofs.Common.{◌≡◌, ℕ, ◌+◌, ◌<◌, Bool, true, false, cond, List, [], ◌∷◌, ◌++◌, length, get_or, map, take, sym, ap, ap₂, ◌∙◌, append-nil, arith, zero-add}
 use Rattle.std.proofs.lemmas.Grind.{flat_map-append}
 use Rattle.std.proofs.lemmas.List.{get_or-map, length-map, take-map}
 use Rattle.std.proofs.lemmas.List.Folds.{flat_map-map}
 use Rattle.std.specs.List.{filter, flat_map, list_any, range_with_len}
-use Rattle.value_text.proofs.ListLemmas.{list_any-map, range_with_len_more}
+use Rattle.value_text.proofs.ListLemmas.{list_any-map, range_with_len_more, filter-map}
 use Rattle.html_page.specs.believed.Pieces.{pieces_text}
 use Rattle.html_page.specs.Trees.{content_text}
 use Rattle.html_page.proofs.TreeTexts.{no_pieces}
@@ -16,15 +16,6 @@ use Rattle.suite_page.specs.LeftOut.{group_closing, group_opening, left_out_clos
 use Rattle.suite_page.specs.Seen.{combination_text, omission_seen}
 use Rattle.suite_page.specs.declared.left_out.Omission.{Omission}
 use Rattle.suite_page.proofs.Wholes.{left_out_whole, three}
-
--- what passes of a list that is seen through a function
-kept : {X Y : Type 0} (f : X → Y) (b : Bool) (x : X) (xs : List X) (ys : List Y) → ys ≡ map f xs → cond b (f x ∷ ys) ys ≡ map f (cond b (x ∷ xs) xs)
-kept f true x xs ys same = ap (λ list. f x ∷ list) same
-kept f false x xs ys same = same
-
-filter-map : {X Y : Type 0} (p : Y → Bool) (f : X → Y) (xs : List X) → filter p (map f xs) ≡ map f (filter (λ x. p (f x)) xs)
-filter-map p f [] = refl
-filter-map p f (x ∷ xs) = kept f (p (f x)) x (filter (λ y. p (f y)) xs) (filter p (map f xs)) (filter-map p f xs)
 
 -- ---- the combinations of a group
 

@@ -10,7 +10,7 @@ use Rattle.cov_model.specs.believed.Sound.{ModelView}
 use Rattle.definitions.specs.believed.Seeds.{distinct, is_same_row}
 use Rattle.definitions.proofs.Members.{any_member, has_place}
 use Rattle.distinct_rows.specs.Known.{is_known_row, with_row}
-use Rattle.distinct_rows.proofs.SameRows.{distinct_by-push}
+use Rattle.definitions.proofs.SameRows.{distinct_by-push}
 use Rattle.shrink_search.proofs.FewerLemmas.{before_more, before_skip, fit_long}
 use Rattle.suite_shrink.specs.FirstRows.{AreFirst}
 

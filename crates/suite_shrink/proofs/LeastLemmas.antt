@@ -1,11 +1,11 @@
 -- The served tuples of the sets in a slice, as marks, and the sums over the slices.
-use Rattle.std.proofs.Common.{◌≡◌, ℕ, ◌+◌, ◌<◌, ◌≤◌, Bool, true, false, cond, List, [], ◌∷◌, ◌++◌, map, take, drop, length, get_or, sum_by, Option, refl, ◌∙◌, sym, ap, subst, arith, zero-add}
+use Rattle.std.proofs.Common.{◌≡◌, ℕ, ◌+◌, ◌<◌, ◌≤◌, Bool, true, false, cond, List, [], ◌∷◌, ◌++◌, map, take, drop, length, get_or, sum_by, Option, refl, ◌∙◌, sym, ap, subst, arith, add_assoc}
 use Rattle.std.specs.Prelude.{max, sum}
 use Rattle.std.specs.List.{filter, flat_map, range_with_len}
 use Rattle.std.proofs.lemmas.Grind.{flat_map-append}
 use Rattle.std.proofs.lemmas.List.{append-nil, get_or-drop, get_or-map, get_or-take, length-drop, length-map, length-take-le, map-append, same_lists, take_all, take_more}
 use Rattle.std.proofs.lemmas.List.Elements.{filter-append}
-use Rattle.std.proofs.lemmas.List.Sums.{length-filter, sum_by-append, sum_by-cons}
+use Rattle.std.proofs.lemmas.List.Sums.{sum_by-append, sum_by-cons}
 use Rattle.std.proofs.lemmas.Option.{get_or_from_slice_get, slice_get-get_or}
 use Rattle.cov_model.specs.declared.slice.Slice.{Slice}
 use Rattle.cov_model.specs.declared.slice.Slice.TheVariants.{Negative, Positive}
@@ -25,12 +25,7 @@ use Rattle.tuple_index.specs.Places.{has_part, start_of, ways_in}
 use Rattle.tuple_index.specs.Plan.{PlanView, plan_of, set_at}
 use Rattle.uncovered_table.proofs.ChoiceLemmas.{tuple_at_place}
 use Rattle.uncovered_table.proofs.PartLemmas.{RanksKnown, ranks_known}
-use Rattle.value_text.proofs.ListLemmas.{count_map, range_with_len_more}
-
--- as many marks are set as items pass
-count_marks : {X : Type 0} (test : X → Bool) (items : List X) → length (filter (λ mark. mark) (map test items)) ≡ length (filter test items)
-count_marks test items =
-    length-filter (λ mark. mark) (map test items) ∙ count_map (λ mark. mark) test items ∙ sym (length-filter test items)
+use Rattle.value_text.proofs.ListLemmas.{count_marks, range-more}
 
 -- the marks of the tuples of a set in a slice stand one after another
 part_marks : (m : ModelView) (test : List (Option ℕ) → Bool) (slice : Slice) (set first count : ℕ) → IsSliceOf m slice → set < length (demanded_sets m)
@@ -102,10 +97,6 @@ greatest_more f items i d within =
 pub greatest_all : {X : Type 0} (f : X → ℕ) (items : List X) (i : ℕ) → length items ≤ i → greatest (map f (take i items)) ≡ greatest (map f items)
 greatest_all f items i past = ap (λ xs. greatest (map f xs)) (take_all i items past)
 
--- one number more
-first_numbers : (n : ℕ) → range_with_len 0 (n + 1) ≡ range_with_len 0 n ++ n ∷ []
-first_numbers n = range_with_len_more 0 n ∙ ap (λ k. range_with_len 0 n ++ k ∷ []) (zero-add n)
-
 -- the sum over the slices of a parameter's first values that are negative, so many
 abbrev pub by_value : ModelView → List (List (Option ℕ)) → ℕ → ℕ → ℕ
 by_value m rows p v = sum_by (most_served m rows) (map (λ w. Negative p w) (filter (λ w. (value_at m p w).negative) (range_with_len 0 v)))
@@ -116,7 +107,7 @@ value_step m rows p v =
     let test : ℕ → Bool = λ w. (value_at m p w).negative in
     let first = filter test (range_with_len 0 v) in
     let last = filter test (v ∷ []) in
-    ap (λ vs. sum_by (most_served m rows) (map (λ w. Negative p w) (filter test vs))) (first_numbers v)
+    ap (λ vs. sum_by (most_served m rows) (map (λ w. Negative p w) (filter test vs))) (range-more v)
     ∙ ap (λ vs. sum_by (most_served m rows) (map (λ w. Negative p w) vs)) (filter-append test (range_with_len 0 v) (v ∷ []))
     ∙ ap (sum_by (most_served m rows)) (map-append (λ w. Negative p w) first last)
     ∙ sum_by-append (most_served m rows) (map (λ w. Negative p w) first) (map (λ w. Negative p w) last)
@@ -144,14 +135,11 @@ pub param_more : (m : ModelView) (rows : List (List (Option ℕ))) (p : ℕ) →
 param_more m rows p =
     let block : ℕ → List Slice = λ q. map (λ v. Negative q v) (negative_values m q) in
     let before = flat_map block (range_with_len 0 p) in
-    ap (λ qs. most_served m rows Positive + sum_by (most_served m rows) (flat_map block qs)) (first_numbers p)
+    ap (λ qs. most_served m rows Positive + sum_by (most_served m rows) (flat_map block qs)) (range-more p)
     ∙ ap (λ ss. most_served m rows Positive + sum_by (most_served m rows) ss)
     (flat_map-append block (range_with_len 0 p) (p ∷ []) ∙ ap (λ ss. before ++ ss) (append-nil (block p)))
     ∙ ap (λ n. most_served m rows Positive + n) (sum_by-append (most_served m rows) before (block p))
-    ∙ plus (most_served m rows Positive) (sum_by (most_served m rows) before) (sum_by (most_served m rows) (block p))
-  where
-    plus : (a b c : ℕ) → a + (b + c) ≡ a + b + c
-    plus a b c = omega arith
+    ∙ sym (add_assoc (most_served m rows Positive) (sum_by (most_served m rows) before) (sum_by (most_served m rows) (block p)))
 
 pub params_none : (m : ModelView) (rows : List (List (Option ℕ))) → by_params m rows 0 ≡ most_served m rows Positive
 params_none m rows = omega arith

@@ -2,7 +2,7 @@
 use Rattle.std.proofs.Common.{inl, inr, ◌≡◌, ◌≢◌, ℕ, ◌+◌, ◌<◌, Bool, true, false, ◌&&◌, ◌||◌, cond, List, [], ◌∷◌, ◌++◌, length, get_or, set, All, Option, Some, None, eqb}
 use Rattle.std.proofs.Common.{Vec, Global, is_some, unwrap_or, map, refl, sym, ap, subst, ◌∙◌, arith, length-append}
 use Rattle.std.specs.Prelude.{nat_lt}
-use Rattle.std.proofs.Math.Bool.{or-false}
+use Rattle.std.proofs.Math.Bool.{or-false, and-true}
 use Rattle.std.proofs.lemmas.Bool.{and_right, cases_eq, cases_lt, eq-eqb, le-ltb, lt-ltb, ne_eqb}
 use Rattle.std.proofs.lemmas.List.{append-nil, get_or-map, get_or-set_other, get_or-set_same, get_or_append_left, get_or_push, length-map, map-set}
 use Rattle.std.proofs.lemmas.List.Elements.{All-get_or, All-push, All-weaker}
@@ -92,13 +92,9 @@ numbers_step rows param count at lists after cell within is are long each = reco
       ∙ ap (λ t. t || is_among (cond (is_value cell v) (at ∷ []) []) k) (are.each v k below)
       ∙ one_number at k (is_value cell v) (has_at rows ((param, v) ∷ []) k) (λ same.
       value_given (get_or rows at []) param v cell is ∙ sym (ap (has_at rows ((param, v) ∷ [])) (sym same) ∙ has_here rows ((param, v) ∷ []) at [] within
-      ∙ one_gives (gives (get_or rows at []) (param, v))));
+      ∙ and-true (gives (get_or rows at []) (param, v))));
 }
   where
-    one_gives : (b : Bool) → (b && true) ≡ b
-    one_gives true = refl
-    one_gives false = refl
-
     kept : (b : Bool) (list : List ℕ) → All (λ number. number < at) list → All (λ number. number < at + 1) (list ++ cond b (at ∷ []) [])
     kept true list below = All-push (λ number. number < at + 1) list at (All-weaker (λ number. number < at) (λ number. number < at + 1) (λ n less. omega (arith, less)) list below) (omega arith)
     kept false list below = subst (All (λ number. number < at + 1)) (sym (append-nil list)) (All-weaker (λ number. number < at) (λ number. number < at + 1) (λ n less. omega (arith, less)) list below)

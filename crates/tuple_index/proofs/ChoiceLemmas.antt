@@ -1,13 +1,13 @@
 -- The steps and the ends of the loops that list choices.
 use Rattle.std.proofs.Common.{Some, Bool, true, false, ◌||◌, ◌≡◌, ℕ, zero, suc, ◌+◌, ◌-◌, ◌<◌, ◌≤◌, List, [], ◌∷◌, ◌++◌, map, take, drop, length, get_or, ◌∙◌, refl, sym, ap, arith, append_assoc}
 use Rattle.std.specs.List.{flat_map, filter, list_any, range_with_len}
-use Rattle.tuple_index.proofs.ListingLemmas.{map_map}
 use Rattle.std.proofs.lemmas.List.Folds.{flat_map-map}
 use Rattle.std.proofs.lemmas.List.{at_drop_more, at_drop_all, append-nil, length-drop, length_push, map-append, take-append-le}
 use Rattle.std.proofs.Math.Seq.{take-length}
 use Rattle.std.specs.Prelude.{slice_get}
 use Rattle.std.proofs.lemmas.Option.{get_or_from_slice_get}
-use Rattle.value_text.proofs.ListLemmas.{map-get_or-range_with_len}
+use Rattle.std.proofs.lemmas.Simd.{map-map}
+use Rattle.value_text.proofs.ListLemmas.{map-get_or-range_with_len, range_step}
 use Rattle.definitions.specs.believed.Demand.{choose, unions}
 
 -- one item more of a list whose pieces are put one after another
@@ -68,7 +68,7 @@ made_step f (suc k) i xs d before after whole some within longer so_far =
     let opened : map f (choose (suc k) (drop i xs)) ≡ map (λ rest. f (x ∷ rest)) with_it ++ map f without =
     ap (map f) (at_drop_more (choose (suc k)) xs i d within)
     ∙ map-append f (map (λ rest. x ∷ rest) with_it) without
-    ∙ ap (λ ys. ys ++ map f without) (map_map f (λ rest. x ∷ rest) with_it) in
+    ∙ ap (λ ys. ys ++ map f without) (map-map f (λ rest. x ∷ rest) with_it) in
     ap (λ ys. ys ++ map f without) (longer ∙ ap (λ n. before ++ map (λ rest. f (x ∷ rest)) (choose n (drop (i + 1) xs))) less)
     ∙ append_assoc before (map (λ rest. f (x ∷ rest)) with_it) (map f without)
     ∙ ap (λ ys. before ++ ys) (sym opened) ∙ so_far
@@ -86,25 +86,19 @@ taken_off xs longer shorter x n put long off =
     let few : n - 1 ≡ length xs = omega (arith, long, ap length put, length_push xs x) in
     off ∙ ap (λ k. take k longer) few ∙ ap (take (length xs)) put ∙ take-append-le (length xs) xs (x ∷ []) (omega arith) ∙ take-length xs
 
--- the numbers from p on
-range_more : (p count : ℕ) → p < count → range_with_len p (count - p) ≡ p ∷ range_with_len (p + 1) (count - (p + 1))
-range_more p count within =
-    let next : count - p ≡ suc (count - (p + 1)) = omega (arith, within) in
-    ap (range_with_len p) next
-
 -- one number more that passes a test, and one that doesn't
 pub single_found : {Y : Type 0} (f : ℕ → Bool) (g : ℕ → Y) (p count : ℕ) (before after whole : List Y) → p < count → f p ≡ true → after ≡ before ++ g p ∷ []
     → before ++ map g (filter f (range_with_len p (count - p))) ≡ whole → after ++ map g (filter f (range_with_len (p + 1) (count - (p + 1)))) ≡ whole
 single_found f g p count before after whole within passes longer so_far =
     let later = map g (filter f (range_with_len (p + 1) (count - (p + 1)))) in
-    let opened : map g (filter f (range_with_len p (count - p))) ≡ g p ∷ later = rw (range_more p count within, passes) refl in
+    let opened : map g (filter f (range_with_len p (count - p))) ≡ g p ∷ later = rw (range_step p count within, passes) refl in
     ap (λ ys. ys ++ later) longer ∙ append_assoc before (g p ∷ []) later ∙ ap (λ ys. before ++ ys) (sym opened) ∙ so_far
 
 pub single_passed : {Y : Type 0} (f : ℕ → Bool) (g : ℕ → Y) (p count : ℕ) (before after whole : List Y) → p < count → f p ≡ false → after ≡ before
     → before ++ map g (filter f (range_with_len p (count - p))) ≡ whole → after ++ map g (filter f (range_with_len (p + 1) (count - (p + 1)))) ≡ whole
 single_passed f g p count before after whole within fails same so_far =
     let opened : map g (filter f (range_with_len p (count - p))) ≡ map g (filter f (range_with_len (p + 1) (count - (p + 1)))) =
-    rw (range_more p count within, fails) refl in
+    rw (range_step p count within, fails) refl in
     ap (λ ys. ys ++ map g (filter f (range_with_len (p + 1) (count - (p + 1))))) same ∙ ap (λ ys. before ++ ys) (sym opened) ∙ so_far
 
 -- choices of places are choices of the items there
@@ -115,7 +109,7 @@ choose-map f (suc k) (x ∷ xs) =
     let with_it = choose-map f k xs in
     let without = choose-map f (suc k) xs in
     let front : map (λ rest. f x ∷ rest) (choose k (map f xs)) ≡ map (map f) (map (λ rest. x ∷ rest) (choose k xs)) =
-    ap (map (λ rest. f x ∷ rest)) with_it ∙ map_map (λ rest. f x ∷ rest) (map f) (choose k xs) ∙ sym (map_map (map f) (λ rest. x ∷ rest) (choose k xs)) in
+    ap (map (λ rest. f x ∷ rest)) with_it ∙ map-map (λ rest. f x ∷ rest) (map f) (choose k xs) ∙ sym (map-map (map f) (λ rest. x ∷ rest) (choose k xs)) in
     ap (λ ys. ys ++ choose (suc k) (map f xs)) front
     ∙ ap (λ ys. map (map f) (map (λ rest. x ∷ rest) (choose k xs)) ++ ys) without
     ∙ sym (map-append (map f) (map (λ rest. x ∷ rest) (choose k xs)) (choose (suc k) xs))

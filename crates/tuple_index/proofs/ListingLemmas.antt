@@ -5,6 +5,7 @@ use Rattle.std.specs.List.{flat_map, range_with_len}
 use Rattle.std.proofs.lemmas.Bool.{cases_eq, eq-eqb}
 use Rattle.std.proofs.lemmas.Bool.Decides.{nat_tests}
 use Rattle.std.proofs.lemmas.List.{map-append}
+use Rattle.std.proofs.lemmas.Simd.{map-map}
 use Rattle.definitions.specs.believed.Demand.{is_among, value_choices}
 use Rattle.tuple_index.specs.Plan.{value_given}
 use Rattle.tuple_index.specs.Places.{RisesFrom, value_lists}
@@ -24,10 +25,6 @@ map_same f g (x ∷ xs) same = ap (λ y. y ∷ map f xs) (same x) ∙ ap (λ ys.
 pub flat_map_same : {X Y : Type 0} (f g : X → List Y) (xs : List X) → ((x : X) → f x ≡ g x) → flat_map f xs ≡ flat_map g xs
 flat_map_same f g [] same = refl
 flat_map_same f g (x ∷ xs) same = ap (λ y. y ++ flat_map f xs) (same x) ∙ ap (λ ys. g x ++ ys) (flat_map_same f g xs same)
-
-pub map_map : {X Y Z : Type 0} (f : Y → Z) (g : X → Y) (xs : List X) → map f (map g xs) ≡ map (λ x. f (g x)) xs
-map_map f g [] = refl
-map_map f g (x ∷ xs) = ap (λ ys. f (g x) ∷ ys) (map_map f g xs)
 
 pub map_flat_map : {X Y Z : Type 0} (f : Y → Z) (g : X → List Y) (xs : List X) → map f (flat_map g xs) ≡ flat_map (λ x. map f (g x)) xs
 map_flat_map f g [] = refl
@@ -106,10 +103,10 @@ choices_member set p own lists values same rest =
         ≡ map (spread (p ∷ set) p (suc (length lists))) (map (λ chosen. v ∷ chosen) (value_lists values set))
     each v =
         ap (map (λ cells. Some v ∷ cells)) rest
-        ∙ map_map (λ cells. Some v ∷ cells) (spread set (p + 1) (length lists)) (value_lists values set)
+        ∙ map-map (λ cells. Some v ∷ cells) (spread set (p + 1) (length lists)) (value_lists values set)
         ∙ map_same (λ chosen. Some v ∷ spread set (p + 1) (length lists) chosen) (λ chosen. spread (p ∷ set) p (suc (length lists)) (v ∷ chosen))
         (value_lists values set) (λ chosen. sym (spread_some set p (length lists) v chosen))
-        ∙ sym (map_map (spread (p ∷ set) p (suc (length lists))) (λ chosen. v ∷ chosen) (value_lists values set))
+        ∙ sym (map-map (spread (p ∷ set) p (suc (length lists))) (λ chosen. v ∷ chosen) (value_lists values set))
 
 -- the parameter is no member
 choices_other : (set : List ℕ) (p : ℕ) (own : List ℕ) (lists : List (List ℕ)) (values : ℕ → List ℕ) → RisesFrom (p + 1) (p + 1 + length lists) set
@@ -119,7 +116,7 @@ choices_other set p own lists values rises rest =
     let test = not_among_before set p (p + 1 + length lists) rises in
     let left : value_choices set p (own ∷ lists) ≡ map (λ cells. None ∷ cells) (value_choices set (p + 1) lists) = rw test refl in
     left ∙ ap (map (λ cells. None ∷ cells)) rest
-    ∙ map_map (λ cells. None ∷ cells) (spread set (p + 1) (length lists)) (value_lists values set)
+    ∙ map-map (λ cells. None ∷ cells) (spread set (p + 1) (length lists)) (value_lists values set)
     ∙ map_same (λ chosen. None ∷ spread set (p + 1) (length lists) chosen) (spread set p (suc (length lists))) (value_lists values set)
     (λ chosen. sym (spread_none set p (length lists) (p + 1 + length lists) chosen rises))
 

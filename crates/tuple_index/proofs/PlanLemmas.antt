@@ -7,6 +7,7 @@ use Rattle.std.proofs.lemmas.List.{get_or-map, length-map}
 use Rattle.std.proofs.lemmas.List.Concat.{length-flat_map}
 use Rattle.std.proofs.lemmas.List.FromFn.{length-map-range_with_len}
 use Rattle.std.proofs.lemmas.List.Sums.{sum-map}
+use Rattle.std.proofs.lemmas.Simd.{map-map}
 use Rattle.cov_model.specs.believed.Sound.{ModelView, no_param, param_at}
 use Rattle.cov_model.specs.believed.Slices.{positive_values}
 use Rattle.cov_model.specs.believed.Valid.{param_numbers}
@@ -18,7 +19,6 @@ use Rattle.tuple_index.specs.Plan.{PlanView, plan_of, tuple_cells}
 use Rattle.tuple_index.specs.believed.PlanFault.{limit_passed, saturated}
 use Rattle.tuple_index.specs.Signs.{values_of_sign}
 use Rattle.value_text.proofs.ListLemmas.{map-get_or-range_with_len}
-use Rattle.tuple_index.proofs.ListingLemmas.{map_map}
 use Rattle.tuple_index.proofs.OrderLemmas.{demanded_rise, each_rises, few_in_order}
 use Rattle.tuple_index.proofs.RankLemmas.{length-tuple_lists}
 use Rattle.tuple_index.proofs.TupleLemmas.{tuples_of-lists}
@@ -35,7 +35,7 @@ same_plan a b sets sizes positives negatives =
 by_sign : (negative : Bool) (m : ModelView)
     → map (λ p. values_of_sign negative (param_at m.params p).values) (param_numbers m) ≡ map (λ param. values_of_sign negative param.values) m.params
 by_sign negative m =
-    sym (map_map (λ param. values_of_sign negative param.values) (param_at m.params) (param_numbers m))
+    sym (map-map (λ param. values_of_sign negative param.values) (param_at m.params) (param_numbers m))
     ∙ ap (map (λ param. values_of_sign negative param.values)) (map-get_or-range_with_len m.params no_param)
 
 pub same_values : (m : ModelView) (plan : PlanView) → plan.sets ≡ [] → plan.sizes ≡ []

@@ -1,5 +1,5 @@
 -- Lines: the tuples of a set in play that differ in the digit of the column alone.
-use Rattle.std.proofs.Common.{inl, inr, ◌≡◌, ℕ, ◌+◌, ◌*◌, ◌^◌, ◌<◌, ◌≤◌, Bool, true, false, ◌||◌, List, [], ◌∷◌, Option, Some, None, length, ◌∙◌, refl, sym, subst, ap, arith}
+use Rattle.std.proofs.Common.{inl, inr, ◌≡◌, ℕ, ◌+◌, ◌*◌, ◌^◌, ◌<◌, ◌≤◌, Bool, true, false, ◌||◌, List, [], ◌∷◌, Option, Some, None, length, ◌∙◌, refl, sym, subst, ap, arith, add_assoc}
 use Rattle.std.specs.Prelude.{◌==◌, option_map, if◌then◌else◌}
 use Rattle.std.specs.Option.{option_map_or}
 use Rattle.std.specs.List.{filter, last_or}
@@ -115,11 +115,8 @@ line_known m slice cells column set members first number step kept own play same
     omega (arith, least, end, begin)) in
     let some = (play_known m slice column set (set_at m set) kept own play refl).own in
     record {
-      value = λ d. ap (option_map (λ n. first_bit m slice set + n)) (each d) ∙ ap Some (summed (first_bit m slice set) number (d * step))
+      value = λ d. ap (option_map (λ n. first_bit m slice set + n)) (each d) ∙ ap Some (sym (add_assoc (first_bit m slice set) number (d * step)))
           ∙ ap (λ f. Some (f + number + d * step)) (sym begin);
       within = inside;
       few = (let least = inside 0 some in omega (arith, least, places_few m slice kept own));
     }
-  where
-    summed : (a b c : ℕ) → a + (b + c) ≡ a + b + c
-    summed a b c = omega arith

@@ -18,12 +18,13 @@ folded_char fold c = if fold then to_ascii_lowercase c else c
 lowercase_high : (b : ℕ) → 128 ≤ b → to_ascii_lowercase b ≡ b
 lowercase_high b high = grind (arith, nat_tests)
 
--- the bytes of a character that is not ASCII
+-- bytes that are not ASCII
 map_high : (bytes : List ℕ) → ((k : ℕ) → k < length bytes → 128 ≤ get_or bytes k 0) → map to_ascii_lowercase bytes ≡ bytes
 map_high [] high = refl
 map_high (b ∷ rest) high = rw (lowercase_high b (high 0 (omega arith)), map_high rest (λ k within. high (suc k) (omega arith)))
 
-high_byte : (c k : ℕ) → 128 ≤ c → k < length (encode_utf8 c) → 128 ≤ get_or (encode_utf8 c) k 0
+-- the bytes of a character that is not ASCII
+pub high_byte : (c k : ℕ) → 128 ≤ c → k < length (encode_utf8 c) → 128 ≤ get_or (encode_utf8 c) k 0
 high_byte c k high within =
     elim (leb_tells 128 (get_or (encode_utf8 c) k 0)) [
       | inl is ↦ is.1

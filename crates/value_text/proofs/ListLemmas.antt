@@ -1,16 +1,17 @@
 -- Facts of Bool, Option, Result, lists and numbers that several crates need and the standard library has not.
-use Rattle.std.proofs.Common.{◌≡◌, ℕ, zero, suc, ◌+◌, ◌*◌, ◌<◌, ◌≤◌, Bool, true, false, not, cond, ◌&&◌, ◌||◌, ◌==◌, nat_lt, nat_eq, Option, Some, None, is_some}
+use Rattle.std.proofs.Common.{◌≡◌, ℕ, zero, suc, ◌+◌, ◌-◌, ◌*◌, ◌<◌, ◌≤◌, Bool, true, false, not, cond, ◌&&◌, ◌||◌, ◌==◌, nat_lt, nat_eq, Option, Some, None, is_some}
 use Rattle.std.proofs.Common.{unwrap_or, Result, Ok, Err, List, [], ◌∷◌, ◌++◌, map, filter, length, replicate, get_or, All, inl, inr, refl, sym, ◌∙◌, ap, arith}
-use Rattle.std.proofs.Common.{position, find, count_by}
+use Rattle.std.proofs.Common.{position, find, count_by, flat_map, subst, append_assoc, append-nil, length-append, zero-add}
 use Rattle.std.proofs.lemmas.Bool.{false≢true, cond-true, eqb-true, lt-ltb, cases_lt, cond-false}
 use Rattle.std.proofs.lemmas.Bool.Decides.{nat_tests}
 use Rattle.std.proofs.lemmas.List.{map-id, same_lists, get_or-replicate, get_or_default, get_or_past, length-map, length-replicate}
-use Rattle.std.proofs.lemmas.List.Elements.{All-head, All-tail}
-use Rattle.std.proofs.lemmas.List.FromFn.{map-range_with_len_more, length-map-range_with_len, get_or-map-range_with_len}
+use Rattle.std.proofs.lemmas.List.Elements.{All-head, All-tail, filter-append}
+use Rattle.std.proofs.lemmas.List.FromFn.{map-range_with_len_more, length-map-range_with_len, length-range_with_len, get_or-map-range_with_len, get_or-range_with_len}
 use Rattle.std.proofs.lemmas.List.Sums.{length-filter, count_by-le-length, position_or_len_is}
 use Rattle.std.proofs.Math.Bool.{and_comm, or_assoc, or_self}
 use Rattle.std.specs.List.{list_any, position_or_len, range_with_len, prefix_len}
-use Rattle.std.specs.Option.{option_or, option_map_or, option_map}
+use Rattle.std.specs.Option.{option_or, option_map_or, option_map, IfSome}
+use Rattle.std.proofs.lemmas.Grind.{flat_map-append}
 use Rattle.std.proofs.lemmas.List.Folds.{fold-map}
 use Rattle.std.specs.Str.{bytes_eq}
 use Rattle.std.specs.Result.{IsErrAnd}
@@ -84,6 +85,10 @@ pub Some-from_equal : (o : Option ℕ) (n : ℕ) → option_map_or (λ k. nat_eq
 Some-from_equal None n equal = absurd (false≢true equal)
 Some-from_equal (Some k) n equal = ap Some (eqb-true k n equal)
 
+-- what is said of what an option holds
+pub at_held : {A : Type 0} (P : A → Type 0) (o : Option A) (x : A) → o ≡ Some x → IfSome o P → P x
+at_held P o x e h = subst (λ found. IfSome found P) e h
+
 -- a result is not both
 pub ok-err : {T E : Type 0} {r : Result T E} (x : T) (e : E) → r ≡ Ok x → r ≡ Err e → ⊥
 ok-err x e ok err = cc
@@ -123,6 +128,16 @@ filter_same p q [] same = refl
 filter_same p q (x ∷ xs) same =
     ap (λ (b : Bool). cond b (x ∷ filter p xs) (filter p xs)) (same x) ∙ ap (λ rest. cond (q x) (x ∷ rest) rest) (filter_same p q xs same)
 
+-- a filter of what a function gives
+pub filter-map : {X Y : Type 0} (test : Y → Bool) (f : X → Y) (xs : List X) → filter test (map f xs) ≡ map f (filter (λ x. test (f x)) xs)
+filter-map test f [] = refl
+filter-map test f (x ∷ xs) =
+    ap (λ rest. cond (test (f x)) (f x ∷ rest) rest) (filter-map test f xs) ∙ at (test (f x)) (filter (λ y. test (f y)) xs)
+  where
+    at : (b : Bool) (rest : List _) → cond b (f x ∷ map f rest) (map f rest) ≡ map f (cond b (x ∷ rest) rest)
+    at true rest = refl
+    at false rest = refl
+
 -- one filter after another
 pub filter-filter : {X : Type 0} (p q : X → Bool) (xs : List X) → filter p (filter q xs) ≡ filter (λ x. q x && p x) xs
 filter-filter p q [] = refl
@@ -157,6 +172,11 @@ list_any-position p (x ∷ xs) =
 -- how many items of a list that a function gave pass
 pub count_map : {X Y : Type 0} (p : Y → Bool) (f : X → Y) (xs : List X) → count_by p (map f xs) ≡ count_by (λ x. p (f x)) xs
 count_map p f xs = fold-map (λ s y. s + cond (p y) 1 0) f 0 xs
+
+-- as many marks are set as items pass
+pub count_marks : {X : Type 0} (test : X → Bool) (items : List X) → length (filter (λ mark. mark) (map test items)) ≡ length (filter test items)
+count_marks test items =
+    length-filter (λ mark. mark) (map test items) ∙ count_map (λ mark. mark) test items ∙ sym (length-filter test items)
 
 -- where each item fails the test, nothing is found
 pub nothing_found : {X : Type 0} (test : X → Bool) (xs : List X) → All (λ x. test x ≡ false) xs → find test xs ≡ None
@@ -197,6 +217,37 @@ none_at n p = elim (cases_lt p n) [
 pub range_with_len_more : (a n : ℕ) → range_with_len a (n + 1) ≡ range_with_len a n ++ (a + n) ∷ []
 range_with_len_more a n =
     sym (map-id (range_with_len a (n + 1))) ∙ map-range_with_len_more (λ k. k) a n (a + n) refl ∙ ap (λ list. list ++ (a + n) ∷ []) (map-id (range_with_len a n))
+
+pub range-more : (n : ℕ) → range_with_len 0 (n + 1) ≡ range_with_len 0 n ++ n ∷ []
+range-more n = range_with_len_more 0 n ∙ ap (λ k. range_with_len 0 n ++ k ∷ []) (zero-add n)
+
+-- the numbers from one on are it and those behind it
+pub range_step : (p count : ℕ) → p < count → range_with_len p (count - p) ≡ p ∷ range_with_len (p + 1) (count - (p + 1))
+range_step p count within =
+    let longer : count - p ≡ suc (count - (p + 1)) = omega (arith, within) in
+    ap (range_with_len p) longer
+
+-- the numbers below one are below it
+pub below_all : (n : ℕ) → All (λ x. x < n) (range_with_len 0 n)
+below_all n = λ k d within. omega (arith, length-range_with_len 0 n, get_or-range_with_len 0 n k d (omega (arith, length-range_with_len 0 n, within)))
+
+-- how many of them pass
+pub passing-count : (test : ℕ → Bool) (n : ℕ) → length (filter test (range_with_len 0 (n + 1))) ≡ length (filter test (range_with_len 0 n)) + cond (test n) 1 0
+passing-count test n =
+    ap (λ ks. length (filter test ks)) (range-more n) ∙ ap length (filter-append test (range_with_len 0 n) (n ∷ []))
+    ∙ length-append (filter test (range_with_len 0 n)) (cond (test n) (n ∷ []) []) ∙ ap (λ k. length (filter test (range_with_len 0 n)) + k) (at (test n))
+  where
+    at : (b : Bool) → length (cond b (n ∷ []) []) ≡ cond b 1 0
+    at true = refl
+    at false = refl
+
+-- the texts of the numbers below one more
+pub text_more : (f : ℕ → List ℕ) (n : ℕ) (before now after : List ℕ) → now ≡ before ++ flat_map f (range_with_len 0 n) → after ≡ now ++ f n
+    → after ≡ before ++ flat_map f (range_with_len 0 (n + 1))
+text_more f n before now after so_far next =
+    next ∙ ap (λ text. text ++ f n) so_far ∙ append_assoc before (flat_map f (range_with_len 0 n)) (f n)
+    ∙ ap (λ text. before ++ text) (sym
+    (ap (flat_map f) (range-more n) ∙ flat_map-append f (range_with_len 0 n) (n ∷ []) ∙ ap (λ text. flat_map f (range_with_len 0 n) ++ text) (append-nil (f n))))
 
 -- the items at all places
 pub map-get_or-range_with_len : {X : Type 0} (xs : List X) (d : X) → map (λ i. get_or xs i d) (range_with_len 0 (length xs)) ≡ xs

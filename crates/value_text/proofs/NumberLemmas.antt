@@ -1,5 +1,5 @@
 -- The parts of a decimal number, and the size that they write.
-use Rattle.std.proofs.Common.{◌≡◌, ℕ, ◌+◌, ◌-◌, ◌*◌, ◌^◌, ◌<◌, ◌≤◌, Bool, true, false, ◌&&◌, nat_lt, suc, Some, None}
+use Rattle.std.proofs.Common.{◌≡◌, ℕ, ◌+◌, ◌-◌, ◌*◌, ◌^◌, ◌<◌, ◌≤◌, Bool, true, false, ◌&&◌, nat_lt, suc, Some, None, nat_le, if◌then◌else◌, refl, subst}
 use Rattle.std.proofs.Common.{List, ◌++◌, length, length-drop, take, take_all, drop, sym, ◌∙◌, ap, inl, inr, arith}
 use Rattle.std.proofs.lemmas.Bool.Decides.{nat_tests, leb_tells}
 use Rattle.std.proofs.lemmas.Nat.{pow-add}
@@ -8,7 +8,9 @@ use Rattle.std.proofs.Math.Bool.{and-true}
 use Rattle.std.specs.List.{list_all, position, position_or_len}
 use Rattle.std.specs.Char.{is_ascii_digit}
 use Rattle.std.specs.Str.Parse.{digits_value}
-use Rattle.value_text.specs.believed.Numbers.{is_digits, is_point, without_sign, is_decimal}
+use Rattle.std.proofs.lemmas.Bool.{and_parts, leb-true}
+use Rattle.std.proofs.lemmas.Option.{none-some, same_Some}
+use Rattle.value_text.specs.believed.Numbers.{count_of, is_digits, is_point, without_sign, is_decimal}
 use Rattle.value_text.proofs.DigitLemmas.{value_small, digits_value-append}
 use Rattle.value_text.proofs.ListLemmas.{list_any-position}
 
@@ -65,3 +67,18 @@ scales whole decimals are few are_too few_too =
       fits = omega arith;
       size = rw (digits_value-append whole decimals) (omega (arith, ap (λ n. digits_value 10 whole * n) power));
     }
+
+-- a count lies in its range
+pub count_within : (text : List ℕ) (least most n : ℕ) → count_of text least most ≡ Some n → (least ≤ n) × (n ≤ most)
+count_within text least most n h = decide (is_digits text && nat_le (length text) 20 && nat_le least value && nat_le value most) refl
+  where
+    value : ℕ
+    value = digits_value 10 text
+
+    decide : (b : Bool) → (is_digits text && nat_le (length text) 20 && nat_le least value && nat_le value most) ≡ b → (least ≤ n) × (n ≤ most)
+    decide true t =
+        let last = and_parts (is_digits text && nat_le (length text) 20 && nat_le least value) (nat_le value most) t in
+        let first = and_parts (is_digits text && nat_le (length text) 20) (nat_le least value) last.0 in
+        let same : value ≡ n = same_Some value n (sym (ap (λ b. if b then Some value else None) t) ∙ h) in
+        (subst (λ k. least ≤ k) same (leb-true least value first.1), subst (λ k. k ≤ most) same (leb-true value most last.1))
+    decide false t = absurd (none-some n (sym (ap (λ b. if b then Some value else None) t) ∙ h))

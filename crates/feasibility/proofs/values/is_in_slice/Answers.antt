@@ -2,7 +2,7 @@ use Rattle.std.proofs.Common.{[], ◌∙◌, not, sym, ap, get_or}
 use Rattle.cov_model.specs.declared.slice.Slice.{Slice}
 use Rattle.cov_model.specs.believed.Slices.{slice_values}
 use Rattle.definitions.specs.believed.Demand.{is_among}
-use Rattle.feasibility.proofs.Extendable.{slice_positive, slice_other, slice_fixed}
+use Rattle.definitions.proofs.SliceValues.{slice_positive, slice_other, slice_fixed}
 use Rattle.feasibility.proofs.values.is_in_slice.Goals as goal
 
 pub returns-in-Positive : goal.returns-in-Positive

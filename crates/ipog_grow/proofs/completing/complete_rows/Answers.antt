@@ -1,7 +1,7 @@
 use Rattle.std.proofs.Common.{◌≡◌, ℕ, All, length, sym, subst}
 use Rattle.std.proofs.lemmas.List.Elements.{All-append}
 use Rattle.ipog_grow.proofs.Completed.{fits_behind}
-use Rattle.ipog_grow.proofs.SameRows.{distinct_by-all}
+use Rattle.definitions.proofs.SameRows.{distinct_by-all}
 use Rattle.ipog_grow.proofs.completing.complete_rows.Goals as goal
 
 pub append-requires : goal.append-requires

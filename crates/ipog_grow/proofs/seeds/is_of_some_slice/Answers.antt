@@ -2,9 +2,9 @@ use Rattle.std.proofs.Common.{◌≡◌, ◌+◌, ◌&&◌, ℕ, Bool, cond, len
 use Rattle.std.specs.List.{range_with_len}
 use Rattle.cov_model.specs.believed.Meaning.{given_value}
 use Rattle.cov_model.specs.believed.Rows.{is_assigned}
-use Rattle.ipog_grow.proofs.Seeding.{passing-count}
 use Rattle.ipog_grow.proofs.seeds.is_of_some_slice.Goals as goal
 use Rattle.ipog_grow.proofs.seeds.is_of_some_slice.Goals.{then-is_negative, else-is_negative}
+use Rattle.value_text.proofs.ListLemmas.{passing-count}
 
 pub loop-p-preserved : goal.loop-p-preserved
 loop-p-preserved c =

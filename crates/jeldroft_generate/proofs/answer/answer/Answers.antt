@@ -1,10 +1,11 @@
 use Rattle.std.proofs.Common.{◌∙◌}
 use Rattle.command_line.specs.believed.Loading.{IsLoaded}
 use Rattle.jeldroft_files.specs.believed.Models.{StopsModel, opts_of}
-use Rattle.jeldroft_generate.proofs.Reading.{at_held, cause_given, model_given}
+use Rattle.jeldroft_generate.proofs.Reading.{cause_given, model_given}
 use Rattle.jeldroft_generate.proofs.SeedLemmas.{told_kept}
 use Rattle.jeldroft_generate.proofs.Steps.{calls_for, calls_for_none}
 use Rattle.jeldroft_generate.proofs.answer.answer.Goals as goal
+use Rattle.value_text.proofs.ListLemmas.{at_held}
 
 pub returns-in-Ok-clause-answers : goal.returns-in-Ok-clause-answers
 returns-in-Ok-clause-answers g c = λ held is.

@@ -1,7 +1,7 @@
 use Rattle.definitions.specs.believed.Growth.{growth}
 use Rattle.row_text.specs.RowFiles.{seeds_seen}
-use Rattle.pict_cli.proofs.Questions.{ends_full}
 use Rattle.jeldroft_generate.proofs.growing.grow.Goals as goal
+use Rattle.feasibility.proofs.FullEffort.{ends_full}
 
 pub stop_of_search-requires : goal.stop_of_search-requires
 stop_of_search-requires g c =

@@ -1,8 +1,8 @@
 use Rattle.std.proofs.Common.{None}
 use Rattle.cov_model.specs.believed.Preference.{preference}
 use Rattle.definitions.specs.believed.Demand.{demanded_tuples}
-use Rattle.jeldroft_measure.proofs.SearchLemmas.{ends_full}
 use Rattle.jeldroft_measure.proofs.measuring.figures_of.Goals as goal
+use Rattle.feasibility.proofs.FullEffort.{ends_full}
 
 pub stop_of_search-requires : goal.stop_of_search-requires
 stop_of_search-requires g c =

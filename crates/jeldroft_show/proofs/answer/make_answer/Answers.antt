@@ -1,8 +1,8 @@
 use Rattle.std.proofs.Common.{subst, sym, ◌∙◌}
 use Rattle.command_line.specs.believed.Loading.{IsLoaded}
 use Rattle.jeldroft_files.specs.believed.Models.{StopsModel, opts_of}
-use Rattle.jeldroft_inputs.proofs.InputLemmas.{at_held, cause_given, model_given}
-use Rattle.value_text.proofs.ListLemmas.{is_err}
+use Rattle.jeldroft_inputs.proofs.InputLemmas.{cause_given, model_given}
+use Rattle.value_text.proofs.ListLemmas.{is_err, at_held}
 use Rattle.jeldroft_show.specs.believed.Due.{Due}
 use Rattle.jeldroft_show.specs.Steps.{IsCalledFor}
 use Rattle.jeldroft_show.proofs.DueLemmas.{due_ended, due_given, suite_kept}

@@ -3,9 +3,9 @@ use Rattle.jeldroft_files.specs.believed.Failures.{status_of}
 use Rattle.jeldroft_files.specs.believed.Models.{opts_of}
 use Rattle.jeldroft_files.specs.Runs.{IsCalledFor, answer_seen}
 use Rattle.jeldroft_inputs.proofs.Calling.{called_for, called_unread, seen_failed}
-use Rattle.jeldroft_inputs.proofs.InputLemmas.{at_held}
 use Rattle.jeldroft_suspect.specs.believed.Due.{Due, text_of}
 use Rattle.jeldroft_suspect.proofs.run.answer.Goals as goal
+use Rattle.value_text.proofs.ListLemmas.{at_held}
 
 pub returns-in_err-model-clause-due : goal.returns-in_err-model-clause-due
 returns-in_err-model-clause-due g c = λ model table told told_table.

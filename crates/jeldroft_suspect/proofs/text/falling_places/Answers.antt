@@ -6,11 +6,11 @@ use Rattle.std.proofs.lemmas.List.Sorted.{All-permutation}
 use Rattle.cov_model.specs.believed.Preference.{by_falling_weight}
 use Rattle.suspect_tuples.specs.Told.{found_seen}
 use Rattle.jeldroft_suspect.specs.believed.SuspectsText.{found_at}
-use Rattle.jeldroft_suspect.proofs.TextLemmas.{places_exist}
 use Rattle.jeldroft_suspect.proofs.text.falling_places.Goals as goal
+use Rattle.value_text.proofs.ListLemmas.{below_all}
 
 pub sort_by_count-requires : goal.sort_by_count-requires
-sort_by_count-requires c = subst (All (λ at. at < length c.args.list.now)) (sym c.in_ok-places.ensures) (places_exist (length c.args.list.now))
+sort_by_count-requires c = subst (All (λ at. at < length c.args.list.now)) (sym c.in_ok-places.ensures) (below_all (length c.args.list.now))
 
 pub returns-clause-places : goal.returns-clause-places
 returns-clause-places c =
@@ -21,4 +21,4 @@ pub returns-clause-exist : goal.returns-clause-exist
 returns-clause-exist c =
     let list = c.args.list.now in
     All-permutation (λ at. at < length list) c.in_ok-places.places.items c.sort_by_count.new.places.items c.in_ok-sort_by_count.ensures.each
-    (subst (All (λ at. at < length list)) (sym c.in_ok-places.ensures) (places_exist (length list)))
+    (subst (All (λ at. at < length list)) (sym c.in_ok-places.ensures) (below_all (length list)))

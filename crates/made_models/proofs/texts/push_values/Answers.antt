@@ -1,7 +1,7 @@
 use Rattle.made_models.specs.believed.MadeModel.{value_behind}
 use Rattle.std.specs.String.{string_bytes}
-use Rattle.made_models.proofs.Drawing.{text_more}
 use Rattle.made_models.proofs.texts.push_values.Goals as goal
+use Rattle.value_text.proofs.ListLemmas.{text_more}
 
 pub loop-value-preserved : goal.loop-value-preserved
 loop-value-preserved c =

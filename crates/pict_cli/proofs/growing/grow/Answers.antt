@@ -3,10 +3,10 @@ use Rattle.cov_model.specs.believed.Preference.{preference}
 use Rattle.definitions.specs.believed.Growth.{growth}
 use Rattle.definitions.specs.believed.Search.{first_over}
 use Rattle.feasibility.specs.Ends.{EndsBy}
+use Rattle.feasibility.proofs.FullEffort.{ends_full}
 use Rattle.row_text.specs.RowFiles.{seeds_seen}
 use Rattle.pict_cli.specs.Options.{settings_seen}
 use Rattle.pict_cli.specs.believed.Runs.{growth_over}
-use Rattle.pict_cli.proofs.Questions.{ends_full}
 use Rattle.pict_cli.proofs.growing.grow.Goals as goal
 
 pub stop_of_search-requires : goal.stop_of_search-requires

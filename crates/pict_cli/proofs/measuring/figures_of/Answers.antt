@@ -2,8 +2,8 @@ use Rattle.cov_model.specs.believed.Preference.{preference}
 use Rattle.std.proofs.Common.{None}
 use Rattle.definitions.specs.believed.Demand.{demanded_tuples}
 use Rattle.definitions.specs.believed.Search.{first_measured_over}
-use Rattle.pict_cli.proofs.Questions.{ends_full}
 use Rattle.pict_cli.proofs.measuring.figures_of.Goals as goal
+use Rattle.feasibility.proofs.FullEffort.{ends_full}
 
 pub stop_of_search-requires : goal.stop_of_search-requires
 stop_of_search-requires g c =

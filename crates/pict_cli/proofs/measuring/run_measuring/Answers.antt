@@ -11,11 +11,12 @@ use Rattle.pict_cli.specs.Options.{settings_seen}
 use Rattle.pict_cli.specs.believed.Runs.{EndsBehind, rows_of_run, spent_at}
 use Rattle.pict_cli.proofs.Behind.{ends_by, file_read, given_in, rows_answered, rows_early, text_same, within_due, work_stopped, work_written}
 use Rattle.pict_cli.proofs.Early.{leaves_early, leaves_from, leaves_printed, runs_early}
-use Rattle.pict_cli.proofs.Measured.{suite_rows, writes_none}
+use Rattle.pict_cli.proofs.Measured.{writes_none}
 use Rattle.pict_cli.proofs.Questions.{IsOfSearch, none_spent, reads_searched, search_answered, search_early, search_ends}
 use Rattle.pict_cli.proofs.RowFiles.{if_err_then}
 use Rattle.pict_cli.proofs.Suspicions.{work_due}
 use Rattle.pict_cli.proofs.measuring.run_measuring.Goals as goal
+use Rattle.row_text.proofs.SeenRows.{suite_rows}
 
 pub returns-in_err-ready-clause-runs : goal.returns-in_err-ready-clause-runs
 returns-in_err-ready-clause-runs g c = λ seed source told.

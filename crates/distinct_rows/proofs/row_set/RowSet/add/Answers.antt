@@ -3,7 +3,7 @@ use Rattle.std.specs.List.{list_any}
 use Rattle.std.proofs.lemmas.List.{map-append}
 use Rattle.distinct_rows.specs.Known.{is_known_row}
 use Rattle.distinct_rows.specs.declared.row_set.RowKey.{RowKey}
-use Rattle.distinct_rows.proofs.SameRows.{equal_cells, known_by_places}
+use Rattle.definitions.proofs.SameRows.{equal_cells, known_by_places}
 use Rattle.distinct_rows.proofs.row_set.RowSet.add.Goals as goal
 
 abbrev cells : RowKey → List (Option ℕ)

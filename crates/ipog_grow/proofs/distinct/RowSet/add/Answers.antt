@@ -3,7 +3,7 @@ use Rattle.std.specs.List.{list_any}
 use Rattle.std.proofs.lemmas.List.{map-append}
 use Rattle.ipog_grow.specs.Rows.{is_known_row}
 use Rattle.ipog_grow.specs.declared.distinct.RowKey.{RowKey}
-use Rattle.ipog_grow.proofs.SameRows.{equal_cells, known_by_places}
+use Rattle.definitions.proofs.SameRows.{equal_cells, known_by_places}
 use Rattle.ipog_grow.proofs.distinct.RowSet.add.Goals as goal
 
 abbrev cells : RowKey → List (Option ℕ)

@@ -1,8 +1,9 @@
 use Rattle.std.proofs.Common.{◌≡◌, false, sym, ◌∙◌}
 use Rattle.std.proofs.lemmas.Bool.{false_from_ne_true, false≢true}
 use Rattle.definitions.specs.believed.Completion.{is_extendable}
+use Rattle.definitions.proofs.SliceValues.{slice_exists}
 use Rattle.model_lint.specs.believed.Tests.{has_test}
-use Rattle.model_lint.proofs.SliceTests.{slice_exists, slice_test}
+use Rattle.model_lint.proofs.SliceTests.{slice_test}
 use Rattle.model_lint.proofs.Steps.{ok_also}
 use Rattle.model_lint.proofs.unused.Values.conflict.Goals as goal
 

@@ -15,7 +15,6 @@ use Rattle.definitions.proofs.PartialRowLemmas.{same-sym, same-trans, same_row_i
 use Rattle.cov_model.proofs.CellLemmas.{contains-refl}
 use Rattle.cov_model.specs.believed.Rows.{contains}
 use Rattle.definitions.specs.believed.Seeds.{is_same_row, distinct_by}
-use Rattle.ipog_grow.specs.Rows.{is_known_row}
 
 -- an item among those of which none is the same as an earlier one, and one more at the end
 module _ {X : Type 0} (row : X → List (Option ℕ)) where
@@ -98,7 +97,7 @@ same_is_equal known row long =
 -- so a set of rows that compares places knows the rows that are the same
 pub known_by_places : {K : Type 0} (cells : K → List (Option ℕ)) (keys : List K) (row : List (Option ℕ))
     → All (λ known. length known ≡ length row) (map cells keys)
-    → list_any (λ key. equal_cells row (cells key)) keys ≡ is_known_row (map cells keys) row
+    → list_any (λ key. equal_cells row (cells key)) keys ≡ list_any (λ known. is_same_row known row) (map cells keys)
 known_by_places cells [] row all = refl
 known_by_places cells (key ∷ keys) row all =
     ap (λ (b : Bool). b || list_any (λ other. equal_cells row (cells other)) keys)

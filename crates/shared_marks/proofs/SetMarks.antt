@@ -1,7 +1,5 @@
 -- The marks on the demanded tuples of a set.
-use Rattle.std.proofs.Common.{◌≡◌, ℕ, ◌+◌, ◌<◌, ◌≤◌, Bool, true, false, cond, List, [], ◌∷◌, map, length, get_or, take, drop, Option, suc, refl, ◌∙◌, sym, ap, arith}
-use Rattle.std.specs.List.{filter}
-use Rattle.std.specs.Prelude.{sum}
+use Rattle.std.proofs.Common.{◌≡◌, ℕ, ◌+◌, ◌<◌, ◌≤◌, Bool, List, [], map, length, get_or, take, drop, Option, ◌∙◌, sym, ap, arith}
 use Rattle.std.proofs.lemmas.List.{get_or-drop, get_or-map, get_or-take, length-drop, length-map, length-take-le, same_lists}
 use Rattle.std.proofs.lemmas.Option.{get_or_from_slice_get, slice_get-get_or}
 use Rattle.cov_model.specs.believed.Sound.{ModelView}
@@ -9,16 +7,6 @@ use Rattle.definitions.specs.believed.Demand.{demanded_sets, demanded_tuples, tu
 use Rattle.tuple_index.specs.Plan.{plan_of, set_at}
 use Rattle.shared_marks.specs.Served.{base_of}
 use Rattle.shared_marks.proofs.PlaceLemmas.{place_within, set_within, tuple_there}
-
--- as many marks are set as items pass
-pub count_marks : {X : Type 0} (test : X → Bool) (items : List X) → length (filter (λ mark. mark) (map test items)) ≡ length (filter test items)
-count_marks test [] = refl
-count_marks test (item ∷ items) = by_test (test item) (count_marks test items)
-  where
-    by_test : (b : Bool) → length (filter (λ mark. mark) (map test items)) ≡ length (filter test items)
-        → length (cond b (b ∷ filter (λ mark. mark) (map test items)) (filter (λ mark. mark) (map test items))) ≡ length (cond b (item ∷ filter test items) (filter test items))
-    by_test true later = ap suc later
-    by_test false later = later
 
 -- the marks of a set stand one after another from its base on
 pub set_marks : (m : ModelView) (test : List (Option ℕ) → Bool) (set : ℕ) → set < length (demanded_sets m)
