@@ -13,10 +13,10 @@ found_at_once-requires-clause-fits c =
     (subst (λ (view : SolverView). IsOfSlice view.model view.slice c.args.cells.now) (sym c.self.view_is) c.requires).fits
 
 pub found_at_once-requires-clause-node : goal.found_at_once-requires-clause-node
-found_at_once-requires-clause-node c = sym c.self.invariant.ready.fails ∙ c.if-not-fails.true
+found_at_once-requires-clause-node c = sym c.self.invariant.ready.fails ∙ c.if-not-self.true
 
-pub returns-then-not-fails-in-Some-clause-answer : goal.returns-then-not-fails-in-Some-clause-answer
-returns-then-not-fails-in-Some-clause-answer c =
+pub returns-in-Some-clause-answer : goal.returns-in-Some-clause-answer
+returns-in-Some-clause-answer c =
     let s : SolverView = record { model = c.self.inside.tree.model; prefs = c.self.inside.prefs.now; slice = c.self.inside.slice } in
     subst (λ (view : SolverView). c.in-Some.found ≡ is_extendable view.model view.slice c.args.cells.now) c.self.view_is
     (c.in-Some.ensures.found
