@@ -23,6 +23,7 @@ use Rattle.definitions.proofs.Choices.{choice_at, choice_from, choice_completes,
 use Rattle.definitions.proofs.SliceLemmas.{IsSlice, choice_is_row, choice_is_valid, has_numbers, has_params, negative_exists, of_negatives, of_params, row_in_slice, slice_is, slice_of_is}
 use Rattle.definitions.proofs.Serving.{of_serves, served_is_choice, value_of}
 use Rattle.definitions.proofs.Finishing.{completes}
+use Rattle.definitions.proofs.SliceValues.{slice_exists}
 use Rattle.model_lint.specs.Changes.{IsTestOf}
 use Rattle.model_lint.specs.Seeking.{in_negative, in_slice_of, in_some_negative, is_cell_of}
 use Rattle.model_lint.specs.believed.Tests.{has_test}

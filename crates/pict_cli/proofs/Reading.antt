@@ -1,6 +1,7 @@
 -- A run whose model file was read, and one whose reading stopped.
 use Rattle.std.proofs.Common.{◌≡◌, ℕ, List, [], Option, None, Some, Err, Result, inl, inr, refl, sym, ap, subst, ◌∙◌}
 use Rattle.std.specs.Prelude.{◌≢◌, IfSome, IsSomeAnd}
+use Rattle.value_text.proofs.ListLemmas.{at_held}
 use Rattle.outside_io.specs.believed.Seen.{FolderSeen, KeepsFiles, KeepsReadFaults, KeepsWriteFaults, ReadFaultsRose}
 use Rattle.cov_model.specs.believed.Sound.{ModelView}
 use Rattle.definitions.specs.declared.effort.Effort.{Effort}
@@ -86,7 +87,7 @@ ran_loaded bytes opts s seed name m noted notes row_notes before loaded after en
   ends = λ held at.
       subst (λ list. Ends s seed held (row_source s before.folder.files) list row_notes before after end) (sym told)
       (ends_loaded s seed held (row_source s before.folder.files) m noted row_notes before after end
-      (subst (λ found. IsLoaded found held m noted) same (at_told (λ found. IsLoaded opts found m noted) bytes held at read))
+      (subst (λ found. IsLoaded found held m noted) same (at_held (λ found. IsLoaded opts found m noted) bytes held at read))
       (if_told _ (row_source s before.folder.files) (λ source given.
       runs_read s seed source m row_notes before loaded after end keeps quiet (runs source (source_kept s before.folder loaded.folder keeps ∙ given)))));
   leaves = leaves_from s name before loaded after (end_of end) keeps reads writes quiet left;
@@ -100,7 +101,7 @@ pub ran_unread : (bytes : Option (Option (List ℕ))) (opts : ModelOpts) (s : Se
 ran_unread bytes opts s seed name notes row_notes before after end stop same e told told_rows quiet keeps stops left =
     subst (RanOn bytes s seed name before after notes row_notes) (sym e) (record {
       ends = λ held at. inl (
-        subst (λ found. StopsReading found held stop) same (at_told (λ found. StopsReading opts found stop) bytes held at stops),
+        subst (λ found. StopsReading found held stop) same (at_held (λ found. StopsReading opts found stop) bytes held at stops),
         told,
         told_rows,
         quiet,
