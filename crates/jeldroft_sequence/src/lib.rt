@@ -10,8 +10,10 @@
 
 mod cause;
 mod ended;
+mod event_lines;
 mod orders;
 mod read;
+mod refused_part;
 mod run;
 mod told;
 mod verdict;
