@@ -6,7 +6,6 @@ use cov_model::{ParamNo, TestModel, ValueNo};
 use itoa::Buffer;
 use jeldroft_args::Check;
 use jeldroft_files::Failure;
-use jeldroft_words::tell_failure;
 use outside_io::{Sink, put_pieces};
 use proof_check::Verdict;
 use std::alloc::Global;
@@ -178,6 +177,6 @@ pub(crate) fn tell<E: Sink>(
 ) {
     match end {
         Ok(verdict) => tell_refusal(args, verdict, notes, diag),
-        Err(failure) => tell_failure(alloc, failure, diag),
+        Err(failure) => notes.files.tell_failure(alloc, failure, diag),
     }
 }

@@ -8,7 +8,7 @@ use cov_model::{Demand, TestModel};
 use itoa::Buffer;
 use jeldroft_args::Generate;
 use jeldroft_files::Failure;
-use jeldroft_words::{FewerTests, tell_failure, tell_fewer};
+use jeldroft_words::{FewerTests, tell_fewer};
 use outside_io::{Sink, put_pieces};
 use refutation::Omissions;
 use shared_marks::count_tuples;
@@ -151,6 +151,6 @@ pub(crate) fn tell<E: Sink>(
     }
     match end {
         Ok(summary) => sum_up(summary, args, terminal, diag),
-        Err(failure) => tell_failure(alloc, failure, diag),
+        Err(failure) => notes.files.tell_failure(alloc, failure, diag),
     }
 }

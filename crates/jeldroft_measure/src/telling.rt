@@ -1,6 +1,6 @@
 use jeldroft_args::Measure;
 use jeldroft_files::Failure;
-use jeldroft_words::{FileNotes, tell_failure};
+use jeldroft_words::FileNotes;
 use outside_io::Sink;
 use std::alloc::Global;
 
@@ -15,6 +15,6 @@ pub(crate) fn tell<E: Sink>(
     notes.tell_model(args.model.name.as_str(), diag);
     notes.tell_table(args.table.as_str(), diag);
     if let Err(failure) = end {
-        tell_failure(alloc, failure, diag);
+        notes.tell_failure(alloc, failure, diag);
     }
 }

@@ -1,6 +1,9 @@
 //! `sequence`: orders of events, the verdict on a report of them, and what is told of files that are refused.
 
 use crate::case::{Case, ends_as};
+use std::alloc::Global;
+use std::thread::Threads;
+use value_text::NoMemory;
 
 // The words, the file of events, the report that is checked, and what comes of them.
 #[derive(Clone, Copy)]
@@ -78,85 +81,74 @@ const RUNS: &[Run<'static>] = &[
     },
 ];
 
-// A file of events that is refused.
-const fn refused<'a>(words: &'a [&'a str], events: &'a str, told: &'a str) -> Run<'a> {
-    Run {
-        words,
-        events,
-        report: "",
-        status: 2,
-        out: "",
-        told,
-    }
-}
-
-const REFUSED: &[Run<'static>] = &[
+// Words, a file of events that is refused, and what is told.
+const REFUSED: &[(&[&str], &str, &str)] = &[
     // no name and no precedence: by its first character, behind a name, and behind each part of a precedence
-    refused(
+    (
         ORDERS,
         "a\n b\n",
         "e:2:1: error: expected the name of an event, of ASCII letters, digits and \"_\", found \" b\" [Q1]\n",
     ),
-    refused(
+    (
         ORDERS,
         "\u{feff}\u{e4}b\n",
         "e:1:1: error: expected the name of an event, of ASCII letters, digits and \"_\", found \"\u{e4}b\" [Q1]\n",
     ),
-    refused(
+    (
         ORDERS,
         "a\nopen file\r\n",
         "e:2:5: error: expected \" < \" and the name of an event, or the end of the line, found \" file\" [Q1]\n",
     ),
-    refused(
+    (
         ORDERS,
         "a\nb\na <b\n",
         "e:3:2: error: expected \" < \" and the name of an event, or the end of the line, found \" <b\" [Q1]\n",
     ),
-    refused(
+    (
         ORDERS,
         "a\na < \n",
         "e:2:5: error: expected the name of an event, of ASCII letters, digits and \"_\", found the end of the line [Q1]\n",
     ),
-    refused(
+    (
         ORDERS,
         "a\nb\na < b c\n",
         "e:3:6: error: expected the end of the line, found \" c\" [Q1]\n",
     ),
     // an event twice
-    refused(
+    (
         CHECK,
         "# events\nopen\nclose\n\nopen\n",
         "e:5:1: error: expected the name of another event, found \"open\", which line 2 declares [Q2]\n",
     ),
     // an event of a precedence that a later line declares, or none
-    refused(
+    (
         ORDERS,
         "open\nopen < close\nclose\n",
         "e:2:8: error: expected an event that a line above declares, found \"close\" [Q3]\n",
     ),
-    refused(
+    (
         ORDERS,
         "open\nshut < open\n",
         "e:2:1: error: expected an event that a line above declares, found \"shut\" [Q3]\n",
     ),
     // no event, or too few
-    refused(
+    (
         ORDERS,
         "# none\n\n",
         "e:1:1: error: expected a line that declares an event, found none [Q4]\n",
     ),
-    refused(
+    (
         ORDERS,
         "a\n# no more\n",
         "e:1:1: error: expected at least 2 events for sequences of 2, found \"a\" alone [Q5]\n",
     ),
-    refused(
+    (
         TRIPLES,
         "\na\nb\na < b\n",
         "e:3:1: error: expected at least 3 events for sequences of 3, found \"a\" and \"b\" alone [Q5]\n",
     ),
     // more events than there may be
-    refused(
+    (
         ORDERS,
         MANY,
         "e: error: the file has 65 events, and may have 64\n",
@@ -171,21 +163,38 @@ const MANY: &str = "\
     e39\ne40\ne41\ne42\ne43\ne44\ne45\ne46\ne47\ne48\ne49\ne50\ne51\n\
     e52\ne53\ne54\ne55\ne56\ne57\ne58\ne59\ne60\ne61\ne62\ne63\ne64\n";
 
+// Whether a run ends as it should, and leaves its files.
+fn ends<R: Threads + Sync>(rt: &R, alloc: Global, run: &Run<'_>) -> Result<bool, NoMemory> {
+    let files = [("e", run.events), ("q", run.report)];
+    let case = Case {
+        words: run.words,
+        files: &files,
+        status: run.status,
+        out: run.out,
+        told: run.told,
+        left: &files,
+    };
+    ends_as(rt, alloc, &case)
+}
+
 #[test]
 fn orders_and_judges(rt: HostRuntime) {
-    for (number, run) in RUNS.iter().chain(REFUSED).enumerate() {
-        let files = [("e", run.events), ("q", run.report)];
-        let case = Case {
-            words: run.words,
-            files: &files,
-            status: run.status,
-            out: run.out,
-            told: run.told,
-            left: &files,
+    for (number, run) in RUNS.iter().enumerate() {
+        assert!(rt; ends(&rt, rt.alloc(), run) == Ok(true), "case {number}");
+    }
+}
+
+#[test]
+fn says_what_is_refused(rt: HostRuntime) {
+    for (number, (words, events, told)) in REFUSED.iter().enumerate() {
+        let run = Run {
+            words,
+            events,
+            report: "",
+            status: 2,
+            out: "",
+            told,
         };
-        assert!(rt;
-            ends_as(&rt, rt.alloc(), &case) == Ok(true),
-            "case {number}"
-        );
+        assert!(rt; ends(&rt, rt.alloc(), &run) == Ok(true), "case {number}");
     }
 }

@@ -1,7 +1,9 @@
+use crate::failure::tell_failure;
 use crate::notes::tell_notes;
+use crate::refused_table::tell_refused_table;
 use crate::table_notes::tell_text_notes;
 use cov_model::TestModel;
-use jeldroft_files::TableText;
+use jeldroft_files::{Failure, TableText};
 use model_lex::NoteList;
 use outside_io::Sink;
 use std::alloc::Global;
@@ -42,5 +44,17 @@ impl FileNotes {
             Some(model) => tell_text_notes(file, &self.table, model, self.rows.as_slice(), diag),
             None => tell_notes(file, self.rows.as_slice(), diag),
         }
+    }
+
+    /// Writes the line that says why a command ended without what it was asked for: where the table is refused and the
+    /// model was read, with what stands at the place.
+    pub fn tell_failure<E: Sink>(&self, alloc: Global, failure: &Failure<'_>, diag: &mut E) {
+        if let Some(model) = &self.read {
+            let told = tell_refused_table(failure.file, &failure.cause, &self.table, model, diag);
+            if told.is_some() {
+                return;
+            }
+        }
+        tell_failure(alloc, failure, diag);
     }
 }

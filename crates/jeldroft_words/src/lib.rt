@@ -2,7 +2,7 @@
 //! follow, `FILE:LINE: error: WORDS [CODE]`.
 //!
 //! - `tell_failure` and `tell_cause` say why a command ended without what it was asked for, `tell_no_column` that a table
-//!   has no column for a parameter.
+//!   has no column for a parameter, `tell_refused_table` where in a table its refusal stands.
 //! - `tell_notes` gives the warnings on a file by their lines, `tell_table_notes` and `tell_text_notes` those on a table
 //!   with what stands there. `FileNotes` keeps those on a model file and a table until they are told.
 //! - `forbidding_rule` finds a constraint that forbids a row by itself.
@@ -19,6 +19,7 @@ mod finding;
 mod forbidding;
 mod lookup;
 mod notes;
+mod refused_table;
 mod shown;
 mod table_notes;
 
@@ -27,5 +28,6 @@ pub use fewer_tests::{FewerTests, tell_fewer};
 pub use file_notes::FileNotes;
 pub use forbidding::forbidding_rule;
 pub use notes::tell_notes;
+pub use refused_table::tell_refused_table;
 pub use shown::Shown;
 pub use table_notes::{tell_dropped_seed, tell_forbidden_seed, tell_table_notes, tell_text_notes};
