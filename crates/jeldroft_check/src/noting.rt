@@ -12,6 +12,7 @@ use command_line::Stop;
 use cov_model::TestModel;
 use jeldroft_args::Check;
 use jeldroft_files::{Cause, Failure, RefusedModel, TableText, missing_column, opts_of};
+use jeldroft_words::ModelSource;
 use model_lex::ModelOpts;
 use proof_check::Verdict;
 use row_text::{RowMode, read_rows};
@@ -133,6 +134,10 @@ pub(crate) fn explained<'n>(
         Ok(verdict) => {
             if !is_accepted(&verdict) {
                 note_files(alloc, args, &verdict, model.as_slice(), table, notes);
+                notes.files.source = Some(ModelSource {
+                    bytes: model,
+                    marks: model_opts(args).marks,
+                });
             }
             Ok(verdict)
         }

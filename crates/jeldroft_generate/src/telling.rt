@@ -116,8 +116,10 @@ fn tell_seeds<E: Sink>(file: &str, notes: &Notes, diag: &mut E) {
 }
 
 // Writes the warnings.
-fn tell_warnings<E: Sink>(args: &Generate, notes: &Notes, diag: &mut E) {
-    notes.files.tell_model(args.model.name.as_str(), diag);
+fn tell_warnings<E: Sink>(alloc: Global, args: &Generate, notes: &Notes, diag: &mut E) {
+    notes
+        .files
+        .tell_model(alloc, args.model.name.as_str(), diag);
     let _ = diag.put(notes.findings.as_slice());
     if let Some(seeds) = &args.seeds {
         tell_seeds(seeds.as_str(), notes, diag);
@@ -147,7 +149,7 @@ pub(crate) fn tell<E: Sink>(
     ensures { terminal ≡ true → args.now.quiet ≡ false → IfOk end.now (λ summary. TellsNumbers summary.fewer (E.seen diag.new)) }
 {
     if !args.no_warnings {
-        tell_warnings(args, notes, diag);
+        tell_warnings(alloc, args, notes, diag);
     }
     match end {
         Ok(summary) => sum_up(summary, args, terminal, diag),

@@ -12,7 +12,7 @@ pub(crate) fn tell<E: Sink>(
     end: &Result<(), Failure<'_>>,
     diag: &mut E,
 ) {
-    notes.tell_model(args.model.name.as_str(), diag);
+    notes.tell_model(alloc, args.model.name.as_str(), diag);
     notes.tell_table(args.table.as_str(), diag);
     if let Err(failure) = end {
         notes.tell_failure(alloc, failure, diag);

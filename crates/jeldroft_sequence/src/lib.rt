@@ -10,7 +10,6 @@
 
 mod cause;
 mod ended;
-mod event_lines;
 mod orders;
 mod read;
 mod refused_part;

@@ -1,4 +1,4 @@
-use crate::event_lines::EventLines;
+use jeldroft_words::FileLines;
 
 /// The part of a line of a file of events that is refused.
 #[derive(Clone, Copy)]
@@ -78,7 +78,7 @@ impl<'a> RefusedPart<'a> {
 
     /// The event of the precedence in the line of this number that no line above declares.
     pub(crate) fn of_precedence(bytes: &'a [u8], number: u32) -> RefusedPart<'a> {
-        let line = EventLines::line_at(bytes, number);
+        let line = FileLines::line_at(bytes, number);
         let behind = behind_name(line);
         let first = match line.get(..line.len().saturating_sub(behind.len())) {
             Some(first) => first,
@@ -86,7 +86,7 @@ impl<'a> RefusedPart<'a> {
         };
         let expected = "an event that a line above declares";
         match second_event(behind) {
-            Some(second) if EventLines::line_above(bytes, first, number).is_some() => {
+            Some(second) if FileLines::line_above(bytes, first, number).is_some() => {
                 RefusedPart::end_of(line, second, expected)
             }
             _ => RefusedPart {

@@ -1,10 +1,9 @@
 //! What `sequence` tells where it writes nothing. Nothing here takes memory, and a fault of the sink changes nothing.
 use crate::cause::{SequenceCause, SequenceFile};
-use crate::event_lines::EventLines;
 use crate::refused_part::{RefusedPart, is_event};
 use itoa::Buffer;
 use jeldroft_args::Sequence;
-use jeldroft_words::Shown;
+use jeldroft_words::{FileLines, Shown};
 use outside_io::{Sink, WriteAnswer, put_pieces};
 use seq_check::{EventCode, EventLimit};
 
@@ -45,11 +44,11 @@ fn put_part<E: Sink>(name: &str, line: u32, part: &RefusedPart<'_>, diag: &mut E
 
 /// Writes which event a line declares once more, and the line that declares it before.
 fn put_repeated<E: Sink>(name: &str, line: u32, bytes: &[u8], diag: &mut E) -> WriteAnswer {
-    let event = EventLines::line_at(bytes, line);
+    let event = FileLines::line_at(bytes, line);
     let _ = put_place(name, line, 1, diag);
     let _ = put_pieces(diag, &["expected the name of another event, found "]);
     let written = put_found(event, diag);
-    match EventLines::line_above(bytes, event, line) {
+    match FileLines::line_above(bytes, event, line) {
         Some(above) => {
             let mut of_line = Buffer::new();
             put_pieces(diag, &[", which line ", of_line.format(above), " declares"])
@@ -60,7 +59,7 @@ fn put_repeated<E: Sink>(name: &str, line: u32, bytes: &[u8], diag: &mut E) -> W
 
 /// Writes the events that the lines up to this one declare.
 fn put_events<E: Sink>(bytes: &[u8], last: u32, diag: &mut E) {
-    let mut lines = EventLines::of(bytes);
+    let mut lines = FileLines::of(bytes);
     let mut parting = "";
     for _ in 0..last {
         let Some(line) = lines.take_line() else {
@@ -99,7 +98,7 @@ fn put_bad_line<E: Sink>(
     let name = args.events.as_str();
     let _ = match code {
         EventCode::Q1 => {
-            let part = RefusedPart::of_line(EventLines::line_at(bytes, line));
+            let part = RefusedPart::of_line(FileLines::line_at(bytes, line));
             put_part(name, line, &part, diag)
         }
         EventCode::Q2 => put_repeated(name, line, bytes, diag),

@@ -191,8 +191,8 @@ fn tell_line<E: Sink>(
     }
 }
 
-// How many of the first notes are on this line, counted from 0.
-fn count_on(notes: &[Note], line: usize) -> usize {
+/// How many of the first notes are on this line, counted from 0.
+pub(crate) fn count_on(notes: &[Note], line: usize) -> usize {
     for (count, note) in notes.iter().enumerate() {
         if note.line.saturating_sub(1) as usize != line {
             return count;
