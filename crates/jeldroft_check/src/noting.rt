@@ -9,8 +9,10 @@ ghost use Rattle.jeldroft_check.specs.Steps.{end_seen};
 use crate::notes::Notes;
 use crate::row_flaw::flaw_in;
 use command_line::Stop;
+use cov_model::TestModel;
 use jeldroft_args::Check;
 use jeldroft_files::{Cause, Failure, RefusedModel, TableText, missing_column, opts_of};
+use jeldroft_words::ModelSource;
 use model_lex::ModelOpts;
 use proof_check::Verdict;
 use row_text::{RowMode, read_rows};
@@ -27,8 +29,15 @@ fn model_opts(args: &Check) -> ModelOpts
     opts_of(&args.model, args.strength)
 }
 
-// The name of the parameter that the table has no column for, where that is the cause.
-fn column_of(alloc: Global, opts: &ModelOpts, model: &[u8], cause: &Cause) -> Option<Text>
+// The name of the parameter that the table has no column for, where that is the cause. Where the table is refused, `read`
+// gets the model.
+fn column_of(
+    alloc: Global,
+    opts: &ModelOpts,
+    model: &[u8],
+    cause: &Cause,
+    read: &mut Option<TestModel>,
+) -> Option<Text>
     requires opts { AreOpts opts.now }
     requires model { length model.now ≤ most_bytes ModelFile }
 {
@@ -36,20 +45,30 @@ fn column_of(alloc: Global, opts: &ModelOpts, model: &[u8], cause: &Cause) -> Op
         return None;
     };
     match read_model(alloc, model, opts) {
-        Ok((model, _notes)) => missing_column(alloc, &model, *fault),
+        Ok((model, _notes)) => {
+            let column = missing_column(alloc, &model, *fault);
+            *read = Some(model);
+            column
+        }
         Err(_) => None,
     }
 }
 
-// A failure, with what there is to show of it.
-fn shown<'n>(alloc: Global, args: &Check, failure: Failure<'n>, model: Vec<u8>) -> Failure<'n>
+// A failure, with what there is to show of it. Where the table is refused, `read` gets the model.
+fn shown<'n>(
+    alloc: Global,
+    args: &Check,
+    failure: Failure<'n>,
+    model: Vec<u8>,
+    read: &mut Option<TestModel>,
+) -> Failure<'n>
     requires marks { AreMarks args.now.model.marks }
     requires strength { IsStrength args.now.strength }
     requires model { length model.items ≤ most_bytes ModelFile }
     ensures { result.cause ≡ failure.entry.cause }
 {
     let opts = model_opts(args);
-    let column = column_of(alloc, &opts, model.as_slice(), &failure.cause);
+    let column = column_of(alloc, &opts, model.as_slice(), &failure.cause, read);
     failure
         .naming(column)
         .showing(RefusedModel::new(model, opts))
@@ -96,7 +115,7 @@ fn is_accepted(verdict: &Verdict) -> bool {
 }
 
 /// The end of a check. Where the files aren't accepted, what there is to tell of them is kept: with a failure the model
-/// file, or the name of a parameter that has no column; else what there is to warn of.
+/// file and the table, or the name of a parameter that has no column; else what there is to warn of.
 pub(crate) fn explained<'n>(
     alloc: Global,
     args: &Check,
@@ -115,9 +134,16 @@ pub(crate) fn explained<'n>(
         Ok(verdict) => {
             if !is_accepted(&verdict) {
                 note_files(alloc, args, &verdict, model.as_slice(), table, notes);
+                notes.files.source = Some(ModelSource {
+                    bytes: model,
+                    marks: model_opts(args).marks,
+                });
             }
             Ok(verdict)
         }
-        Err(failure) => Err(shown(alloc, args, failure, model)),
+        Err(failure) => {
+            notes.files.table = table;
+            Err(shown(alloc, args, failure, model, &mut notes.files.read))
+        }
     }
 }

@@ -6,7 +6,6 @@ use cov_model::{ParamNo, TestModel, ValueNo};
 use itoa::Buffer;
 use jeldroft_args::Check;
 use jeldroft_files::Failure;
-use jeldroft_words::tell_failure;
 use outside_io::{Sink, put_pieces};
 use proof_check::Verdict;
 use std::alloc::Global;
@@ -160,8 +159,16 @@ fn tell_verdict<E: Sink>(
 }
 
 // Writes the warnings, and what stands against a verdict.
-fn tell_refusal<E: Sink>(args: &Check, verdict: &Verdict, notes: &Notes, diag: &mut E) {
-    notes.files.tell_model(args.model.name.as_str(), diag);
+fn tell_refusal<E: Sink>(
+    alloc: Global,
+    args: &Check,
+    verdict: &Verdict,
+    notes: &Notes,
+    diag: &mut E,
+) {
+    notes
+        .files
+        .tell_model(alloc, args.model.name.as_str(), diag);
     notes.files.tell_table(args.table.as_str(), diag);
     if let Some(model) = &notes.files.read {
         tell_verdict(args, verdict, notes, model, diag);
@@ -177,7 +184,7 @@ pub(crate) fn tell<E: Sink>(
     diag: &mut E,
 ) {
     match end {
-        Ok(verdict) => tell_refusal(args, verdict, notes, diag),
-        Err(failure) => tell_failure(alloc, failure, diag),
+        Ok(verdict) => tell_refusal(alloc, args, verdict, notes, diag),
+        Err(failure) => notes.files.tell_failure(alloc, failure, diag),
     }
 }

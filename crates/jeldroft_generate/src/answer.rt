@@ -28,6 +28,7 @@ use crate::tests::Tests;
 use cov_model::TestModel;
 use jeldroft_args::Generate;
 use jeldroft_files::{Failure, read_model_text};
+use jeldroft_words::ModelSource;
 use outside_io::Folder;
 use refutation::Omissions;
 use row_text::RowFile;
@@ -135,6 +136,10 @@ pub(crate) fn answer<'n, R: Threads + Sync, F: Folder>(
         Ok(file) => {
             let made = make_of_model(rt, alloc, args, &file.model, files, notes);
             note_findings(alloc, args, &file, notes);
+            notes.files.source = Some(ModelSource {
+                bytes: file.bytes,
+                marks: file.marks,
+            });
             notes.files.model = file.notes;
             notes.files.read = Some(file.model);
             made

@@ -8,7 +8,7 @@ use cov_model::{Demand, TestModel};
 use itoa::Buffer;
 use jeldroft_args::Generate;
 use jeldroft_files::Failure;
-use jeldroft_words::{FewerTests, tell_failure, tell_fewer};
+use jeldroft_words::{FewerTests, tell_fewer};
 use outside_io::{Sink, put_pieces};
 use refutation::Omissions;
 use shared_marks::count_tuples;
@@ -116,8 +116,10 @@ fn tell_seeds<E: Sink>(file: &str, notes: &Notes, diag: &mut E) {
 }
 
 // Writes the warnings.
-fn tell_warnings<E: Sink>(args: &Generate, notes: &Notes, diag: &mut E) {
-    notes.files.tell_model(args.model.name.as_str(), diag);
+fn tell_warnings<E: Sink>(alloc: Global, args: &Generate, notes: &Notes, diag: &mut E) {
+    notes
+        .files
+        .tell_model(alloc, args.model.name.as_str(), diag);
     let _ = diag.put(notes.findings.as_slice());
     if let Some(seeds) = &args.seeds {
         tell_seeds(seeds.as_str(), notes, diag);
@@ -147,10 +149,10 @@ pub(crate) fn tell<E: Sink>(
     ensures { terminal ≡ true → args.now.quiet ≡ false → IfOk end.now (λ summary. TellsNumbers summary.fewer (E.seen diag.new)) }
 {
     if !args.no_warnings {
-        tell_warnings(args, notes, diag);
+        tell_warnings(alloc, args, notes, diag);
     }
     match end {
         Ok(summary) => sum_up(summary, args, terminal, diag),
-        Err(failure) => tell_failure(alloc, failure, diag),
+        Err(failure) => notes.files.tell_failure(alloc, failure, diag),
     }
 }

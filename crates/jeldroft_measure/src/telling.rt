@@ -1,6 +1,6 @@
 use jeldroft_args::Measure;
 use jeldroft_files::Failure;
-use jeldroft_words::{FileNotes, tell_failure};
+use jeldroft_words::FileNotes;
 use outside_io::Sink;
 use std::alloc::Global;
 
@@ -12,9 +12,9 @@ pub(crate) fn tell<E: Sink>(
     end: &Result<(), Failure<'_>>,
     diag: &mut E,
 ) {
-    notes.tell_model(args.model.name.as_str(), diag);
+    notes.tell_model(alloc, args.model.name.as_str(), diag);
     notes.tell_table(args.table.as_str(), diag);
     if let Err(failure) = end {
-        tell_failure(alloc, failure, diag);
+        notes.tell_failure(alloc, failure, diag);
     }
 }

@@ -12,6 +12,7 @@ mod cause;
 mod ended;
 mod orders;
 mod read;
+mod refused_part;
 mod run;
 mod told;
 mod verdict;

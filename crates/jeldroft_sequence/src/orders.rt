@@ -23,7 +23,7 @@ fn report(alloc: Global, events: &Events) -> Result<Vec<u8>, SequenceCause>
     Ok(report_text(alloc, events, &suite)?)
 }
 
-/// The report of the orders that are grown for the file of events.
+/// The report of the orders that are grown for the file of events, whose bytes `held` gets.
 ///
 /// # Errors
 ///
@@ -31,6 +31,7 @@ fn report(alloc: Global, events: &Events) -> Result<Vec<u8>, SequenceCause>
 pub(crate) fn orders<F: Folder>(
     alloc: Global,
     args: &Sequence,
+    held: &mut Vec<u8>,
     files: &mut F,
 ) -> Result<Vec<u8>, SequenceCause>
     requires { (2 ≤ args.now.length) × (args.now.length ≤ 3) }
@@ -40,6 +41,6 @@ pub(crate) fn orders<F: Folder>(
         CoversEvents args.now.length held text.items)) }
     ensures files { KeepsFiles (F.seen files.old) (F.seen files.new) }
 {
-    let events = load_events(alloc, args.events.as_str(), args.length, files)?;
+    let events = load_events(alloc, args.events.as_str(), args.length, held, files)?;
     report(alloc, &events)
 }

@@ -51,7 +51,8 @@ fn events_in(alloc: Global, bytes: &[u8], size: u32) -> Result<Events, SequenceC
     Ok(events)
 }
 
-/// The events of the file of this name, for sequences of so many events.
+/// The events of the file of this name, for sequences of so many events. `held` gets its bytes, so that what is refused
+/// there can be told.
 ///
 /// # Errors
 ///
@@ -60,6 +61,7 @@ pub(crate) fn load_events<F: Folder>(
     alloc: Global,
     name: &str,
     size: u32,
+    held: &mut Vec<u8>,
     files: &mut F,
 ) -> Result<Events, SequenceCause>
     requires { (2 ≤ size) × (size ≤ 3) }
@@ -68,5 +70,7 @@ pub(crate) fn load_events<F: Folder>(
     ensures files { KeepsFiles (F.seen files.old) (F.seen files.new) }
 {
     let bytes = read_file(alloc, name, SequenceFile::Events, files)?;
-    events_in(alloc, bytes.as_slice(), size)
+    let events = events_in(alloc, bytes.as_slice(), size);
+    *held = bytes;
+    events
 }

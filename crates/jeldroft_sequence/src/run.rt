@@ -68,12 +68,17 @@ fn print_verdict<F: Folder, O: Sink>(
     }
 }
 
-/// Tells why a run ended without a text, if it did, and gives the exit status.
-fn finish<E: Sink>(end: &Result<Ended, SequenceCause>, args: &Sequence, diag: &mut E) -> u8
+/// Tells why a run ended without a text, if it did, and gives the exit status. `bytes` are those of the file of events.
+fn finish<E: Sink>(
+    end: &Result<Ended, SequenceCause>,
+    args: &Sequence,
+    bytes: &[u8],
+    diag: &mut E,
+) -> u8
     ensures { result ≡ end_status end.now }
 {
     if let Err(cause) = end {
-        tell(*cause, args, diag);
+        tell(*cause, args, bytes, diag);
     }
     status_of(end)
 }
@@ -96,9 +101,10 @@ fn run_orders<F: Folder, O: Sink, E: Sink>(
     ensures leaves { Leaves args.now.output
         (moment (F.seen files.old) (O.seen out.old)) (moment (F.seen files.new) (O.seen out.new)) result }
 {
-    let answer = orders(alloc, args, files);
+    let mut bytes = Vec::new(alloc);
+    let answer = orders(alloc, args, &mut bytes, files);
     let end = write_report(answer, args, files, out);
-    finish(&end, args, diag)
+    finish(&end, args, bytes.as_slice(), diag)
 }
 
 /// Runs `sequence` where the report of this name is checked: prints the verdict on it.
@@ -117,9 +123,10 @@ fn run_check<F: Folder, O: Sink, E: Sink>(
     ensures leaves { Leaves None
         (moment (F.seen files.old) (O.seen out.old)) (moment (F.seen files.new) (O.seen out.new)) result }
 {
-    let answer = make_verdict(alloc, args, report, files);
+    let mut bytes = Vec::new(alloc);
+    let answer = make_verdict(alloc, args, report, &mut bytes, files);
     let end = print_verdict(answer, files, out);
-    finish(&end, args, diag)
+    finish(&end, args, bytes.as_slice(), diag)
 }
 
 /// Runs `sequence`, and gives the exit status: 0 where a report of orders was written, or the one that is checked is

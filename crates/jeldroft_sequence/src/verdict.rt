@@ -67,7 +67,7 @@ fn judge_file<F: Folder>(
     judge(alloc, events, bytes.as_slice())
 }
 
-/// The verdict on the report of this name, for the file of events.
+/// The verdict on the report of this name, for the file of events, whose bytes `held` gets.
 ///
 /// # Errors
 ///
@@ -76,6 +76,7 @@ pub(crate) fn make_verdict<F: Folder>(
     alloc: Global,
     args: &Sequence,
     report: &str,
+    held: &mut Vec<u8>,
     files: &mut F,
 ) -> Result<Verdict, SequenceCause>
     requires { (2 ≤ args.now.length) × (args.now.length ≤ 3) }
@@ -84,6 +85,6 @@ pub(crate) fn make_verdict<F: Folder>(
         GivesVerdict (judgement_on other (events_held args.now.length held)) result)) }
     ensures files { KeepsFiles (F.seen files.old) (F.seen files.new) }
 {
-    let events = load_events(alloc, args.events.as_str(), args.length, files)?;
+    let events = load_events(alloc, args.events.as_str(), args.length, held, files)?;
     judge_file(alloc, &events, report, files)
 }

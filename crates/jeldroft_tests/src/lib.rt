@@ -14,13 +14,19 @@ mod import;
 #[cfg(test)]
 mod lint;
 #[cfg(test)]
+mod measure;
+#[cfg(test)]
 mod page;
 #[cfg(test)]
 mod pipe;
 #[cfg(test)]
+mod sequence;
+#[cfg(test)]
 mod show;
 #[cfg(test)]
 mod shrink;
+#[cfg(test)]
+mod stopped;
 #[cfg(test)]
 mod suspect;
 #[cfg(test)]

@@ -146,6 +146,54 @@ const REFUSALS: &[Told<'static>] = &[
         files: &[("m", FULL), ("t", "B\nx\n")],
         told: "t: error: no column for the parameter A [F3]\n",
     },
+    // a table without a header
+    Told {
+        words: &["measure", "m", "t"],
+        files: &[("m", FULL), ("t", "\n\n")],
+        told: "t: error: no line with the names of the parameters [F1]\n",
+    },
+    // a second column of a parameter: with tabs, with commas, with quotes, in a table that is checked, and of seeds
+    Told {
+        words: &["measure", "m", "t"],
+        files: &[("m", FULL), ("t", "\nA\tB\t a\n1\tx\t1\n")],
+        told: "t:2:6: error: expected one column for the parameter A, found a second [F2]\n",
+    },
+    Told {
+        words: &["measure", "m", "t.csv"],
+        files: &[("m", FULL), ("t.csv", "\u{e4},A,A,B\n1,1,1,x\n")],
+        told: "t.csv:1:5: error: expected one column for the parameter A, found a second [F2]\n",
+    },
+    Told {
+        words: &["measure", "m", "t.csv"],
+        files: &[("m", FULL), ("t.csv", "\"A\",A,B\n1,1,x\n")],
+        told: "t.csv:1: error: expected one column for the parameter A, found a second [F2]\n",
+    },
+    Told {
+        words: &["check", "m", "t"],
+        files: &[("m", FULL), ("t", "A\tB\tB\n1\tx\tx\n")],
+        told: "t:1:5: error: expected one column for the parameter B, found a second [F2]\n",
+    },
+    Told {
+        words: &["generate", "m", "--seeds", "s", "-o", "t"],
+        files: &[("m", FULL), ("s", "A\tA\n1\t1\n")],
+        told: "s:1:3: error: expected one column for the parameter A, found a second [F2]\n",
+    },
+    // more cells than the header has
+    Told {
+        words: &["measure", "m", "t"],
+        files: &[("m", FULL), ("t", "A\tB\n1\tx\n2\ty\tz\tz\n")],
+        told: "t:3:5: error: expected the end of the line behind the cell of column B, found another cell, \"z\" [F4]\n",
+    },
+    Told {
+        words: &["measure", "m", "t.csv"],
+        files: &[("m", FULL), ("t.csv", "A,B\n1,x,\n")],
+        told: "t.csv:2:5: error: expected the end of the line behind the cell of column B, found another cell, \"\" [F4]\n",
+    },
+    Told {
+        words: &["check", "m", "t"],
+        files: &[("m", FULL), ("t", "A\tB\n\n2\ty\t7\n")],
+        told: "t:3:5: error: expected the end of the line behind the cell of column B, found another cell, \"7\" [F4]\n",
+    },
     // what is refused, and what there is to warn of
     Told {
         words: &["shrink", "m", "t"],

@@ -90,14 +90,14 @@ fn tell_rows_fault<E: Sink>(file: &str, fault: RowsFault, stop: &Stop, diag: &mu
     }
 }
 
-// Writes the line of a question that needs more than the budget.
+// Writes the line of a query that needs more than the budget.
 fn tell_spent<E: Sink>(file: &str, budget: u64, diag: &mut E) {
     let mut buffer = Buffer::new();
     let digits = buffer.format(budget);
     let mut finding = Finding::on(diag, file);
-    finding.text(": error: a question of the search needs more than the budget of ");
+    finding.text(": error: a query of the search needs more than the budget of ");
     finding.text(digits);
-    finding.text("; without --budget every question is answered\n");
+    finding.text("; without --budget every query is answered\n");
 }
 
 // Writes the line of a file that could not be written; without a name it is standard output.

@@ -25,8 +25,8 @@ impl TableLine<'_> {
     }
 }
 
-// A cell without the spaces at its ends.
-fn without_spaces(cell: &str) -> &str {
+/// A cell without the spaces at its ends.
+pub(crate) fn without_spaces(cell: &str) -> &str {
     cell.trim_matches(' ')
 }
 
@@ -38,16 +38,16 @@ fn columns(count: usize) -> u32 {
     }
 }
 
-// The column of the text of a cell, which begins in this column with spaces.
-fn text_column(start: u32, cell: &str) -> u32 {
+/// The column of the text of a cell, which begins in this column with spaces.
+pub(crate) fn text_column(start: u32, cell: &str) -> u32 {
     let spaces = cell
         .len()
         .saturating_sub(cell.trim_start_matches(' ').len());
     start.saturating_add(columns(spaces))
 }
 
-// The column in which the next cell begins.
-fn next_column(start: u32, cell: &str) -> u32 {
+/// The column in which the next cell begins.
+pub(crate) fn next_column(start: u32, cell: &str) -> u32 {
     start
         .saturating_add(columns(cell.chars().count()))
         .saturating_add(1)
@@ -191,8 +191,8 @@ fn tell_line<E: Sink>(
     }
 }
 
-// How many of the first notes are on this line, counted from 0.
-fn count_on(notes: &[Note], line: usize) -> usize {
+/// How many of the first notes are on this line, counted from 0.
+pub(crate) fn count_on(notes: &[Note], line: usize) -> usize {
     for (count, note) in notes.iter().enumerate() {
         if note.line.saturating_sub(1) as usize != line {
             return count;
@@ -201,8 +201,8 @@ fn count_on(notes: &[Note], line: usize) -> usize {
     notes.len()
 }
 
-// The first line that isn't empty.
-fn header_of(text: &str) -> &str {
+/// The first line that isn't empty.
+pub(crate) fn header_of(text: &str) -> &str {
     for line in text.lines() {
         if !line.is_empty() {
             return line;
@@ -211,8 +211,8 @@ fn header_of(text: &str) -> &str {
     ""
 }
 
-// A text without a byte-order mark at its start.
-fn without_mark(text: &str) -> &str {
+/// A text without a byte-order mark at its start.
+pub(crate) fn without_mark(text: &str) -> &str {
     match text.strip_prefix('\u{feff}') {
         Some(rest) => rest,
         None => text,
