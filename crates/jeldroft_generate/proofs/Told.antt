@@ -7,6 +7,7 @@ use Rattle.shorter_suites.specs.believed.Bounds.{least_needed}
 use Rattle.shorter_suites.proofs.Counting.{none_is_shorter}
 use Rattle.jeldroft_args.specs.declared.generate.Generate.{Generate}
 use Rattle.jeldroft_args.specs.declared.shrinking.Shrinking.{Shrinking}
+use Rattle.jeldroft_files.proofs.Ending.{written_since}
 use Rattle.jeldroft_files.specs.Runs.{end_status}
 use Rattle.jeldroft_files.specs.believed.Failures.{status_of}
 use Rattle.jeldroft_files.specs.believed.Runs.{Moment, moment}
@@ -22,7 +23,6 @@ use Rattle.jeldroft_generate.specs.Runs.{Finishes}
 use Rattle.jeldroft_generate.specs.declared.made.Made.{Made}
 use Rattle.jeldroft_generate.specs.declared.telling.Summary.{Summary}
 use Rattle.jeldroft_generate.proofs.Runs.{not_zero}
-use Rattle.jeldroft_generate.proofs.Since.{written_from}
 
 -- the line that sums up is that of the rows
 line_of : (shrinking : Option Shrinking) (m : ModelView) (grown rows : List (List (Option ℕ))) (numbers : Option FewerTests) (told : SinkSeen) → shrinking ≢ None
@@ -48,7 +48,7 @@ told_sum args folder read out told after held (Ok made) (Ok summary) (start, cal
   wrote = record {
     table = made.table.items;
     is = made_of.table;
-    written = written_from args.output made.table.items (moment folder out) (moment read out) after refl (ends.written zero);
+    written = written_since args.output made.table.items (moment folder out) (moment read out) after refl (ends.written zero);
   };
   sums =
       line_of args.shrinking start.model (rows_of args start.model start.seeds) made_of.table.rows made.summary.fewer told asked made_of.numbers
