@@ -24,7 +24,8 @@ fn put_found<E: Sink>(found: &[u8], diag: &mut E) -> WriteAnswer {
         return put_pieces(diag, &["the end of the line"]);
     }
     let shown = Shown::of(found);
-    put_pieces(diag, &["\"", shown.text(), shown.end(), "\""])
+    let _ = put_pieces(diag, &["\"", shown.text()]);
+    put_pieces(diag, &[shown.end(), "\""])
 }
 
 /// Writes the file, the line and the column of a refusal.
